@@ -1,0 +1,3 @@
+pub mod Binary64
+pub mod Ops
+pub mod Residues

@@ -1,0 +1,5 @@
+pub mod Calls
+pub mod Kinds
+pub mod Looks
+pub mod Plans
+pub mod Refusals
