@@ -104,9 +104,7 @@ impl Plan {
         ensures { λ r. ⌜ Does (valued (N·Arithmetic .ops) (N·Arithmetic .mean) (N·Arithmetic .nil)) (set-value number value) (now (self .entry)) (now (rows .entry)) (verdict r) (now (self .exit)) (now (rows .exit)) ⌝ }
     {
         check_place(rows.len(), number)?;
-        let Some(branch) = self.at(number) else {
-            return Err(Refusal::PlaceEmpty);
-        };
+        let branch = self.at(number).ok_or(Refusal::PlaceEmpty)?;
         if !branch.kind.is_source() {
             return Err(Refusal::NotASource);
         }
