@@ -1,23 +1,27 @@
-// The interface of every arithmetic.
+// The interface of every arithmetic. The operations on meanings and the exact laws are in specs/Ops.antt.
 ghost use mathlib.Core.Path.{_≡_};
 ghost use mathlib.Core.Bool.{Bool};
 ghost use Prim.Native.Nat.{ℕ};
 ghost use lib.Dec.{T};
 ghost use Rattle.arithmetic.specs.Ops.{Ops, Exact, capped, mayDivide};
 
+// The largest whole number that an arithmetic is asked for; more is taken as this.
 pub const LARGEST: u64 = 999_999;
 
 pub trait Arithmetic: Copy {
+    // What values mean, and the operations on meanings.
     ghost Meaning: { Type 0 };
 
     ghost mean: { Self → Meaning };
 
     ghost ops: { Ops Meaning };
 
+    // The value that `zero` answers.
     ghost nil: { Self };
 
     ghost exact: { Bool };
 
+    // What an exact arithmetic owes: its laws, and that every meaning is some value's.
     law lawful: { T exact → Exact ops };
 
     law onto: { T exact → (m : Meaning) → ((x : Self) × (mean x ≡ m)) };
@@ -59,7 +63,7 @@ pub trait Arithmetic: Copy {
 
 // Whether a value may be divided by: all but zero may. Every place that refuses a divisor asks this.
 pub fn may_divide<N: Arithmetic>(x: N) -> bool
-    ensures { λ r. ⌜ r ≡ mayDivide (N·Arithmetic .ops) (N·Arithmetic .mean x) ⌝ }
+    ensures { λ r. ⌜ r ≡ mayDivide ops (mean x) ⌝ }
 {
     !x.is_zero()
 }

@@ -156,15 +156,16 @@ fn read_line<N: Arithmetic>(line: &[u8], plan: &mut Plan, rows: &mut [Row<N>]) -
     let placement = card(first, &mut fields)?;
     match plan.place(rows, placement) {
         Ok(()) => Ok(()),
-        Err(refusal) => Err(Flaw {
-            refusal,
-            byte: 1,
-        }),
+        Err(refusal) => Err(Flaw { refusal, byte: 1 }),
     }
 }
 
 // Blanks the sheet and places the cards in order, up to the first fault.
-pub(crate) fn read_cards<N: Arithmetic>(input: &[u8], plan: &mut Plan, rows: &mut [Row<N>]) -> Result<(), Fault> {
+pub(crate) fn read_cards<N: Arithmetic>(
+    input: &[u8],
+    plan: &mut Plan,
+    rows: &mut [Row<N>],
+) -> Result<(), Fault> {
     if let Err(refusal) = plan.blank(rows) {
         return Err(Fault {
             refusal,

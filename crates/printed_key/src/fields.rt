@@ -25,7 +25,11 @@ impl<'a> Lines<'a> {
         }
         let end = run_end(rest, 10);
         self.line = self.line.saturating_add(1);
-        self.rest = if end < rest.len() { &rest[end + 1..] } else { &rest[end..] };
+        self.rest = if end < rest.len() {
+            &rest[end + 1..]
+        } else {
+            &rest[end..]
+        };
         Some(&rest[0..end])
     }
 }

@@ -8,6 +8,7 @@ ghost use lib.Chars.{codes};
 ghost use lib.ListN.{length};
 ghost use Rattle.std.specs.Of.String.{string-bytes};
 ghost use Rattle.std.specs.Vec.{made};
+
 mod cards;
 mod fields;
 mod lines;

@@ -75,7 +75,10 @@ fn over(plan: &Plan, k: u32, nodes: u32) -> u32 {
 
 // Whether a branch closes a loop with those of the word.
 fn closes(plan: &Plan, word: u32, branch: Branch) -> bool {
-    has(reached(plan, word, branch.ends.tail as u32), branch.ends.head as u32)
+    has(
+        reached(plan, word, branch.ends.tail as u32),
+        branch.ends.head as u32,
+    )
 }
 
 // The kept branches, and those of one class that close no loop with what is kept before them.

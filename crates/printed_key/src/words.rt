@@ -15,5 +15,9 @@ pub(crate) fn with(word: u32, k: u32) -> u32 {
 }
 
 pub(crate) fn without(word: u32, k: u32) -> u32 {
-    if has(word, k) { with(word, k) ^ with(0, k) } else { word }
+    if has(word, k) {
+        with(word, k) ^ with(0, k)
+    } else {
+        word
+    }
 }

@@ -2,6 +2,7 @@
 use printed_key::printed_key;
 use std::alloc::AllocError;
 use std::alloc::Global;
+
 #[cfg(test)]
 mod tests;
 

@@ -7,7 +7,10 @@ fn trees(rt: LibcRuntime) -> Result<(), Fail> {
         (b"V0 1 0 6\nR1 1 2 2\nC2 2 0 1\n", b"tree 0 2\n"),
         (b"", b"tree\n"),
         (b"\n   \n* only a comment\n  * and another", b"tree\n"),
-        (b"L0 1 2 1\nL1 1 4 1\nR2 3 4 1\nC3 2 3 1\nR4 2 3 1", b"tree 0 2 3\n"),
+        (
+            b"L0 1 2 1\nL1 1 4 1\nR2 3 4 1\nC3 2 3 1\nR4 2 3 1",
+            b"tree 0 2 3\n",
+        ),
         (b"  V000000  1 000015  -6/000003  \n", b"tree 0\n"),
         (b"C31 0 1 1 -0\n", b"tree 31\n"),
     ];

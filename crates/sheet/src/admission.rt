@@ -17,7 +17,7 @@ use arithmetic::may_divide;
 // Refusals 5 to 9 in that order, or the branch with its first row: an inductor starts with a current, a capacitor
 // with a voltage.
 pub(crate) fn admit<N: Arithmetic>(p: Placement<N>) -> Result<(Branch, Row<N>), Refusal>
-    ensures { λ r. ⌜ told r ≡ admitted (valued (N·Arithmetic .ops) (N·Arithmetic .mean) (N·Arithmetic .nil)) p ⌝ }
+    ensures { λ r. ⌜ told r ≡ admitted (valued ops mean nil) p ⌝ }
 {
     let (start, zero) = (p.start, N::zero());
     match Kind::numbered(p.kind) {
@@ -42,7 +42,7 @@ fn either_above_15(tail: u32, head: u32) -> bool
 
 // A value is sound, and that of a resistor, an inductor or a capacitor may be divided by.
 pub(crate) fn takes_value<N: Arithmetic>(kind: Kind, value: N) -> bool
-    ensures { λ r. ⌜ r ≡ takesValue (valued (N·Arithmetic .ops) (N·Arithmetic .mean) (N·Arithmetic .nil)) kind value ⌝ }
+    ensures { λ r. ⌜ r ≡ takesValue (valued ops mean nil) kind value ⌝ }
 {
     match kind {
         Kind::Resistor | Kind::Inductor | Kind::Capacitor => value.is_sound() & may_divide(value),
@@ -52,7 +52,7 @@ pub(crate) fn takes_value<N: Arithmetic>(kind: Kind, value: N) -> bool
 
 // A start is sound, and zero but on an inductor or a capacitor.
 fn takes_start<N: Arithmetic>(kind: Kind, start: N) -> bool
-    ensures { λ r. ⌜ r ≡ takesStart (valued (N·Arithmetic .ops) (N·Arithmetic .mean) (N·Arithmetic .nil)) kind start ⌝ }
+    ensures { λ r. ⌜ r ≡ takesStart (valued ops mean nil) kind start ⌝ }
 {
     match kind {
         Kind::Inductor | Kind::Capacitor => start.is_sound(),

@@ -15,7 +15,7 @@ use crate::row::Row;
 use arithmetic::Arithmetic;
 
 fn zero_row<N: Arithmetic>() -> Row<N>
-    ensures { λ r. ⌜ r ≡ zeroRow (valued (N·Arithmetic .ops) (N·Arithmetic .mean) (N·Arithmetic .nil)) ⌝ }
+    ensures { λ r. ⌜ r ≡ zeroRow (valued ops mean nil) ⌝ }
 {
     let zero = N::zero();
     Row {
@@ -41,7 +41,7 @@ fn check_place(rows: usize, number: u32) -> Result<(), Refusal>
 
 // Every row zero.
 fn zero_rows<N: Arithmetic>(rows: &mut [Row<N>])
-    ensures { λ _. ⌜ now (rows .exit) ≡ replicate (length (now (rows .entry))) (zeroRow (valued (N·Arithmetic .ops) (N·Arithmetic .mean) (N·Arithmetic .nil))) ⌝ }
+    ensures { λ _. ⌜ now (rows .exit) ≡ replicate (length (now (rows .entry))) (zeroRow (valued ops mean nil)) ⌝ }
 {
     let zero = zero_row();
     for row in rows.iter_mut() {
@@ -52,7 +52,7 @@ fn zero_rows<N: Arithmetic>(rows: &mut [Row<N>])
 impl Plan {
     // Empties the plan and makes every row zero. Refused by 1.
     pub fn blank<N: Arithmetic>(&mut self, rows: &mut [Row<N>]) -> Result<(), Refusal>
-        ensures { λ r. ⌜ Does (valued (N·Arithmetic .ops) (N·Arithmetic .mean) (N·Arithmetic .nil)) blank (now (self .entry)) (now (rows .entry)) (verdict r) (now (self .exit)) (now (rows .exit)) ⌝ }
+        ensures { λ r. ⌜ Does (valued ops mean nil) blank (now (self .entry)) (now (rows .entry)) (verdict r) (now (self .exit)) (now (rows .exit)) ⌝ }
     {
         if rows.len() != 32 {
             return Err(Refusal::WrongLength);
@@ -68,7 +68,7 @@ impl Plan {
         rows: &mut [Row<N>],
         placement: Placement<N>,
     ) -> Result<(), Refusal>
-        ensures { λ r. ⌜ Does (valued (N·Arithmetic .ops) (N·Arithmetic .mean) (N·Arithmetic .nil)) (place placement) (now (self .entry)) (now (rows .entry)) (verdict r) (now (self .exit)) (now (rows .exit)) ⌝ }
+        ensures { λ r. ⌜ Does (valued ops mean nil) (place placement) (now (self .entry)) (now (rows .entry)) (verdict r) (now (self .exit)) (now (rows .exit)) ⌝ }
     {
         let number = placement.number;
         check_place(rows.len(), number)?;
@@ -83,7 +83,7 @@ impl Plan {
 
     // Empties a place and makes its row zero. Refused by 1, 2 and 4.
     pub fn lift<N: Arithmetic>(&mut self, rows: &mut [Row<N>], number: u32) -> Result<(), Refusal>
-        ensures { λ r. ⌜ Does (valued (N·Arithmetic .ops) (N·Arithmetic .mean) (N·Arithmetic .nil)) (lift number) (now (self .entry)) (now (rows .entry)) (verdict r) (now (self .exit)) (now (rows .exit)) ⌝ }
+        ensures { λ r. ⌜ Does (valued ops mean nil) (lift number) (now (self .entry)) (now (rows .entry)) (verdict r) (now (self .exit)) (now (rows .exit)) ⌝ }
     {
         check_place(rows.len(), number)?;
         if self.at(number).is_none() {
@@ -101,7 +101,7 @@ impl Plan {
         number: u32,
         value: N,
     ) -> Result<(), Refusal>
-        ensures { λ r. ⌜ Does (valued (N·Arithmetic .ops) (N·Arithmetic .mean) (N·Arithmetic .nil)) (set-value number value) (now (self .entry)) (now (rows .entry)) (verdict r) (now (self .exit)) (now (rows .exit)) ⌝ }
+        ensures { λ r. ⌜ Does (valued ops mean nil) (set-value number value) (now (self .entry)) (now (rows .entry)) (verdict r) (now (self .exit)) (now (rows .exit)) ⌝ }
     {
         check_place(rows.len(), number)?;
         let branch = self.at(number).ok_or(Refusal::PlaceEmpty)?;

@@ -1,4 +1,5 @@
-// The sheet.
+// A sheet: a plan of branches, and the rows that a caller lends. Each call answers, and leaves in plan and rows, what
+// one function says: `outcome` in specs/Calls.antt. `means` in specs/Refusals.antt has the refusals' numbers.
 mod admission;
 mod branch;
 mod calls;

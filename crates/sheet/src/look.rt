@@ -21,7 +21,7 @@ pub struct Look<N> {
 impl Plan {
     // The branch at that place with its row; none at an empty place, above 31, or with a row table of another length.
     pub fn look<N: Arithmetic>(&self, rows: &[Row<N>], number: u32) -> Option<Look<N>>
-        ensures { λ r. ⌜ r ≡ seen (N·Arithmetic .nil) (now (self .entry)) (now (rows .entry)) number ⌝ }
+        ensures { λ r. ⌜ r ≡ seen nil (now (self .entry)) (now (rows .entry)) number ⌝ }
     {
         if rows.len() != 32 {
             return None;

@@ -6,6 +6,7 @@ use sheet::Placement;
 use sheet::Plan;
 use sheet::Refusal;
 use sheet::Row;
+
 #[cfg(test)]
 mod tests;
 

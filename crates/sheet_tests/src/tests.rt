@@ -11,9 +11,13 @@ use sheet::Plan;
 use std::test::*;
 
 const RESISTOR: u32 = 1;
+
 const INDUCTOR: u32 = 2;
+
 const CAPACITOR: u32 = 3;
+
 const VOLTAGE: u32 = 4;
+
 const CURRENT: u32 = 5;
 
 fn resistor(number: u32) -> Placement<f64> {
@@ -29,14 +33,29 @@ fn resistor(number: u32) -> Placement<f64> {
 
 #[test]
 fn lengths() -> Result<(), Fail> {
-    check_eq(placed_on::<Binary64>(&mut [row_of(0.0); 31], resistor(0)), 1)?;
-    check_eq(placed_on::<Binary64>(&mut [row_of(0.0); 32], resistor(0)), 0)?;
-    check_eq(placed_on::<Binary64>(&mut [row_of(0.0); 33], resistor(0)), 1)?;
+    check_eq(
+        placed_on::<Binary64>(&mut [row_of(0.0); 31], resistor(0)),
+        1,
+    )?;
+    check_eq(
+        placed_on::<Binary64>(&mut [row_of(0.0); 32], resistor(0)),
+        0,
+    )?;
+    check_eq(
+        placed_on::<Binary64>(&mut [row_of(0.0); 33], resistor(0)),
+        1,
+    )?;
     let mut plan = Plan::empty();
     check_eq(number_of(plan.blank::<Binary64>(&mut [row_of(0.0); 31])), 1)?;
     check_eq(number_of(plan.blank::<Binary64>(&mut [row_of(0.0); 33])), 1)?;
-    check_eq(number_of(plan.lift::<Binary64>(&mut [row_of(0.0); 33], 40)), 1)?;
-    check_eq(number_of(plan.set::<Binary64>(&mut [row_of(0.0); 31], 40, 1.0)), 1)?;
+    check_eq(
+        number_of(plan.lift::<Binary64>(&mut [row_of(0.0); 33], 40)),
+        1,
+    )?;
+    check_eq(
+        number_of(plan.set::<Binary64>(&mut [row_of(0.0); 31], 40, 1.0)),
+        1,
+    )?;
     check(plan.look::<Binary64>(&[row_of(0.0); 33], 0).is_none())
 }
 
@@ -143,7 +162,10 @@ fn sources() -> Result<(), Fail> {
         start: 0.0,
     };
     check_eq(number_of(plan.place::<Binary64>(&mut rows, source)), 0)?;
-    check_eq(number_of(plan.set::<Binary64>(&mut rows, 31, f64::INFINITY)), 8)?;
+    check_eq(
+        number_of(plan.set::<Binary64>(&mut rows, 31, f64::INFINITY)),
+        8,
+    )?;
     check_eq(number_of(plan.set::<Binary64>(&mut rows, 31, 0.0)), 0)?;
     check_eq(number_of(plan.set::<Binary64>(&mut rows, 31, 9.0)), 0)?;
     check_eq(number_of(plan.set::<Binary64>(&mut rows, 32, 9.0)), 2)?;

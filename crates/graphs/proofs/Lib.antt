@@ -1,0 +1,13 @@
+pub mod Sets
+pub mod Walks
+pub mod Labels
+pub mod Trails
+pub mod Rank
+pub mod Greedy
+pub mod Classes
+pub mod Order
+pub mod Sums
+pub mod CutRows
+pub mod LoopRows
+pub mod Balances
+pub mod Joint

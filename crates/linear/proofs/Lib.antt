@@ -1,0 +1,13 @@
+pub mod Back
+pub mod Depends
+pub mod Entries
+pub mod Loops
+pub mod Matrix
+pub mod Outside
+pub mod Ring
+pub mod Stages
+pub mod Sums
+pub mod Theorem
+pub mod Triangles
+pub mod Turns
+pub mod Twice

@@ -1,0 +1,4 @@
+pub mod Elimination
+pub mod Inside
+pub mod Loops
+pub mod Systems
