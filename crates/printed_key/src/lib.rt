@@ -1,7 +1,5 @@
-// The printed key of a card file, as text: the tree of its circuit, or the refusal that stands in its way.
-//
-// The card reader and the tree call stand in private modules here. They are proved safe and ending, and no contract
-// says yet what they answer; the crate printed_key_tests runs them.
+// The printed key of a card file, as text: the tree, loops and cuts of its circuit, or the refusal that stands in their
+// way. What the cards and the tree are is promised by the crates cards and topology; how they are printed is tested.
 ghost use mathlib.Core.Path.{_≡_};
 ghost use Prim.Native.Nat.{_<_};
 ghost use lib.Chars.{codes};
@@ -9,17 +7,13 @@ ghost use lib.ListN.{length};
 ghost use Rattle.std.specs.Of.String.{string-bytes};
 ghost use Rattle.std.specs.Vec.{made};
 
-mod cards;
-mod fields;
 mod lines;
-mod numerals;
-mod tree;
-mod words;
+mod network;
 
 use arithmetic::Arithmetic;
 use arithmetic::Binary64;
+use cards::read_cards;
 use sheet::Plan;
-use sheet::Refusal;
 use sheet::Row;
 use std::alloc::AllocError;
 use std::alloc::Global;
@@ -43,11 +37,10 @@ pub fn printed_key(heap: Global, input: &[u8]) -> Result<String, AllocError>
         voltage: zero,
     };
     let mut rows = [row; 32];
-    if let Err(fault) = cards::read_cards(input, &mut plan, &mut rows) {
+    if let Err(fault) = read_cards(input, &mut plan, &mut rows) {
         return lines::fault_line(heap, fault);
     }
-    match tree::tree(&plan) {
-        Ok(tree) => lines::tree_line(heap, tree),
-        Err(refusal) => lines::refusal_line(heap, refusal),
-    }
+    let mut text = String::new(heap);
+    network::push_network(heap, &mut text, &plan)?;
+    Ok(text)
 }

@@ -1,10 +1,14 @@
 // The lines of a printed key.
-use crate::cards::Fault;
-use crate::words::has;
+use cards::Fault;
 use sheet::Refusal;
 use sheet::Shown;
 use std::alloc::AllocError;
 use std::alloc::Global;
+
+// Whether bit k of a word is set.
+pub(crate) fn has(word: u32, k: u32) -> bool {
+    k < 32 && word >> k & 1 == 1
+}
 
 fn sign(shown: Shown, k: u32) -> char {
     if has(shown.against, k) { '-' } else { '+' }
@@ -33,22 +37,39 @@ fn push_signed(heap: Global, text: &mut String, shown: Shown) -> Result<(), Allo
     Ok(())
 }
 
-pub(crate) fn tree_line(heap: Global, tree: u32) -> Result<String, AllocError> {
-    let mut text = String::from_str(heap, "tree")?;
-    push_members(heap, &mut text, tree)?;
-    text.push_str("\n")?;
-    Ok(text)
+pub(crate) fn push_tree(heap: Global, text: &mut String, tree: u32) -> Result<(), AllocError> {
+    text.push_str("tree")?;
+    push_members(heap, text, tree)?;
+    text.push_str("\n")
+}
+
+// `loop 1 -0 +1 +2`: the name, the row's branch, and the signed members.
+pub(crate) fn push_row(
+    heap: Global,
+    text: &mut String,
+    name: &str,
+    k: u32,
+    row: Shown,
+) -> Result<(), AllocError> {
+    let start = format!(heap, "{name} {k}")?;
+    text.push_str(start.as_str())?;
+    push_signed(heap, text, row)?;
+    text.push_str("\n")
 }
 
 // `refused N`, and the signed members where the refusal shows a loop or a cut.
-pub(crate) fn refusal_line(heap: Global, refusal: Refusal) -> Result<String, AllocError> {
+pub(crate) fn push_refusal(
+    heap: Global,
+    text: &mut String,
+    refusal: Refusal,
+) -> Result<(), AllocError> {
     let number = refusal.number();
-    let mut text = format!(heap, "refused {number}")?;
+    let start = format!(heap, "refused {number}")?;
+    text.push_str(start.as_str())?;
     if let Some(shown) = refusal.shown() {
-        push_signed(heap, &mut text, shown)?;
+        push_signed(heap, text, shown)?;
     }
-    text.push_str("\n")?;
-    Ok(text)
+    text.push_str("\n")
 }
 
 // `refused N line L byte B`.

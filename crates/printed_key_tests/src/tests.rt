@@ -2,17 +2,28 @@ use crate::prints;
 use std::test::*;
 
 #[test]
-fn trees(rt: LibcRuntime) -> Result<(), Fail> {
-    let table: [(&[u8], &[u8]); 6] = [
-        (b"V0 1 0 6\nR1 1 2 2\nC2 2 0 1\n", b"tree 0 2\n"),
+fn trees_loops_and_cuts(rt: LibcRuntime) -> Result<(), Fail> {
+    let table: [(&[u8], &[u8]); 8] = [
+        (
+            b"V0 1 0 6\nR1 1 2 2\nC2 2 0 1\n",
+            b"tree 0 2\nloop 1 -0 +1 +2\ncut 0 +0 +1\ncut 2 -1 +2\n",
+        ),
         (b"", b"tree\n"),
         (b"\n   \n* only a comment\n  * and another", b"tree\n"),
         (
             b"L0 1 2 1\nL1 1 4 1\nR2 3 4 1\nC3 2 3 1\nR4 2 3 1",
-            b"tree 0 2 3\n",
+            b"tree 0 2 3\nloop 1 -0 +1 -2 -3\nloop 4 -3 +4\ncut 0 +0 +1\ncut 2 +1 +2\ncut 3 +1 +3 +4\n",
         ),
-        (b"  V000000  1 000015  -6/000003  \n", b"tree 0\n"),
-        (b"C31 0 1 1 -0\n", b"tree 31\n"),
+        (b"  V000000  1 000015  -6/000003  \n", b"tree 0\ncut 0 +0\n"),
+        (b"C31 0 1 1 -0\n", b"tree 31\ncut 31 +31\n"),
+        (
+            b"V0 1 0 10\nR1 1 2 100\nR2 1 3 220\nR3 2 3 470\nR4 2 0 330\nR5 3 0 150\n",
+            b"tree 0 1 2\nloop 3 +1 -2 +3\nloop 4 -0 +1 +4\nloop 5 -0 +2 +5\ncut 0 +0 +4 +5\ncut 1 +1 -3 -4\ncut 2 +2 +3 -5\n",
+        ),
+        (
+            b"I3 5 4 1\nR7 4 5 2\nL9 5 4 3\nC1 4 5 1\n",
+            b"tree 1\nloop 3 +1 +3\nloop 7 -1 +7\nloop 9 +1 +9\ncut 1 +1 -3 +7 -9\n",
+        ),
     ];
     for (input, text) in table {
         check(prints(rt.alloc(), input, text)?)?;
@@ -21,7 +32,7 @@ fn trees(rt: LibcRuntime) -> Result<(), Fail> {
 }
 
 #[test]
-fn loops_and_cuts(rt: LibcRuntime) -> Result<(), Fail> {
+fn refused_trees(rt: LibcRuntime) -> Result<(), Fail> {
     let table: [(&[u8], &[u8]); 4] = [
         (b"V0 1 0 6\nV1 1 0 5\n", b"refused 12 -0 +1\n"),
         (b"V3 1 0 6\nV1 0 2 5\nV7 1 2 1\n", b"refused 12 -1 -3 +7\n"),

@@ -1,0 +1,10 @@
+pub mod Chains
+pub mod Figures
+pub mod Lining
+pub mod Meanings
+pub mod Obeying
+pub mod Pieces
+pub mod Placing
+pub mod Shaping
+pub mod Showing
+pub mod Telling

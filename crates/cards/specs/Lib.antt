@@ -1,0 +1,10 @@
+pub mod Cards
+pub mod Fields
+pub mod Following
+pub mod Lines
+pub mod Meanings
+pub mod Numerals
+pub mod Parts
+pub mod Reading
+pub mod Rules
+pub mod Shapes

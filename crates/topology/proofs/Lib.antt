@@ -1,0 +1,10 @@
+pub mod Bits
+pub mod Firsts
+pub mod Networks
+pub mod Sweeping
+pub mod Gathering
+pub mod Answering
+pub mod Theory
+pub mod Summing
+pub mod Showing
+pub mod Meaning
