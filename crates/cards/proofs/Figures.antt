@@ -16,7 +16,7 @@ use Rattle.cards.specs.declared.numeral.Numeral.{Numeral}
 use Rattle.cards.specs.Numerals.{isDigit, allDigits, decimal, plain, over, slash, valueDigits, ratio, negated, signed, numberDigits, figured, wordOf, isWhole}
 use Rattle.cards.specs.declared.token.Token.{Token}
 use Rattle.cards.specs.declared.token.Token.the-variants.{Number, Node, Value, Start}
-use Rattle.cards.specs.Cards.{Checked, right, wrong, demanded, byteOf, counted}
+use Rattle.cards.specs.Cards.{Checked, right, wrong, wanted, byteOf, counted}
 use Rattle.cards.specs.Parts.{reach}
 use Rattle.sheet.specs.declared.kind.Kind.{Kind}
 
@@ -103,18 +103,18 @@ pub record Count (k : Kind) (t : Token) (n : Numeral) : Type 0 where
   pub small : n .top < 1000000
   pub is : right (n .top) ≡ counted (wordOf t)
 
-pub count-of : (k : Kind) (t : Token) (n : Numeral) → isWhole t ≡ true → right n ≡ demanded 22 (byteOf (wordOf t)) (figured k t) → Count k t n
+pub count-of : (k : Kind) (t : Token) (n : Numeral) → isWhole t ≡ true → right n ≡ wanted 22 (byteOf (wordOf t)) (figured k t) → Count k t n
 count-of k t n is e = go t is e
   where
-    whole-is : (byte : ℕ) (text : List ℕ) (p : Option ℕ) → plain numberDigits text ≡ p → right n ≡ demanded 22 byte (over p (Some 1))
-        → (n .top < 1000000) × (right (n .top) ≡ demanded 22 byte (plain numberDigits text))
+    whole-is : (byte : ℕ) (text : List ℕ) (p : Option ℕ) → plain numberDigits text ≡ p → right n ≡ wanted 22 byte (over p (Some 1))
+        → (n .top < 1000000) × (right (n .top) ≡ wanted 22 byte (plain numberDigits text))
     whole-is byte text None at e = let z : _≡_ {A = ℕ} 0 1 = cc in absurd (omega arith)
     whole-is byte text (Some m) at e =
         let same : n ≡ record { minus = false; top = m; under = 1 } = cc in
         let top : n .top ≡ m = ap (λ x. x .top) same in
-        (omega (arith, plain-lt numberDigits text m at), ap right top ∙ ap (demanded 22 byte) (sym at))
+        (omega (arith, plain-lt numberDigits text m at), ap right top ∙ ap (wanted 22 byte) (sym at))
 
-    go : (t : Token) → isWhole t ≡ true → right n ≡ demanded 22 (byteOf (wordOf t)) (figured k t) → Count k t n
+    go : (t : Token) → isWhole t ≡ true → right n ≡ wanted 22 (byteOf (wordOf t)) (figured k t) → Count k t n
     go (Number f) is e = let h = whole-is _ (f .text .now) _ refl e in record { small = h .0; is = h .1 }
     go (Node f) is e = let h = whole-is _ (f .text .now) _ refl e in record { small = h .0; is = h .1 }
     go (Value f) is e = absurd (both-ways true (sym is) refl)

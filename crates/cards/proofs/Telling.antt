@@ -14,7 +14,7 @@ use Rattle.sheet.specs.declared.placement.Placement.{Placement}
 use Rattle.sheet.specs.Kinds.{mark, isSource}
 use Rattle.sheet.specs.Refusals.{Told}
 use Rattle.cards.specs.declared.numeral.Numeral.{Numeral}
-use Rattle.cards.specs.Cards.{Checked, right, wrong, then, demanded, barred, byteOf, isEmpty, counted, wholeIn, amount, measured, valueOf, startOf, hasStart, overOf, cardOf}
+use Rattle.cards.specs.Cards.{Checked, right, wrong, then, wanted, barred, byteOf, isEmpty, counted, wholeIn, amount, measured, valueOf, startOf, hasStart, overOf, cardOf}
 use Rattle.cards.specs.Fields.{Word, Cutting}
 use Rattle.cards.specs.Numerals.{plain, numberDigits, signed, ratio}
 use Rattle.cards.specs.Rules.{Means, Fails, Check, FirstWrong, numberCheck, valueCheck, startCheckBy, overCheck, cardChecks}
@@ -55,17 +55,17 @@ pure-tells x = record {
   so-wrong = λ t b w. absurd w;
 }
 
-pub demand-tells : {X : Type 0} (n byte : ℕ) (x : Option X) (R : X → Type 0) → ((a : X) → x ≡ Some a → R a) → ((a : X) → R a → x ≡ Some a)
-    → Tells (demanded n byte x) R (Fails n byte ((a : X) × R a))
-demand-tells n byte None R into back = record {
+pub wanted-tells : {X : Type 0} (n byte : ℕ) (x : Option X) (R : X → Type 0) → ((a : X) → x ≡ Some a → R a) → ((a : X) → R a → x ≡ Some a)
+    → Tells (wanted n byte x) R (Fails n byte ((a : X) × R a))
+wanted-tells n byte None R into back = record {
   right-so = λ a e. right-wrong a _ _ (sym e);
   so-right = λ a r. some-none a (sym (back a r));
   wrong-so = λ t b e. as-fails n byte _ (λ h. some-none (h .0) (sym (back (h .0) (h .1)))) t b e;
   so-wrong = λ t b f. from-fails n byte _ t b f;
 }
-demand-tells n byte (Some a) R into back = record {
+wanted-tells n byte (Some a) R into back = record {
   right-so = λ y e. subst R (right-same a y e) (into a refl);
-  so-right = λ y r. ap (demanded n byte) (back y r);
+  so-right = λ y r. ap (wanted n byte) (back y r);
   wrong-so = λ t b e. right-wrong a t b e;
   so-wrong = λ t b f. absurd (f .not-so (a, into a refl));
 }
@@ -99,7 +99,7 @@ then-tells (wrong u c) f {R} {W} {R′} {W′} H into out h k = record {
 -- numbers
 
 pub count-tells : (w : Word) → Tells (counted w) (λ n. Writes numberDigits (w .text) n) (numberCheck w .Wrong)
-count-tells w = demand-tells 22 (byteOf w) (plain numberDigits (w .text)) (λ n. Writes numberDigits (w .text) n) (plain-writes numberDigits (w .text)) (writes-plain numberDigits (w .text))
+count-tells w = wanted-tells 22 (byteOf w) (plain numberDigits (w .text)) (λ n. Writes numberDigits (w .text) n) (plain-writes numberDigits (w .text)) (writes-plain numberDigits (w .text))
 
 -- values
 
@@ -136,7 +136,7 @@ module _ {M : Type 0} (o : Ops M) (sign : Bool) (byte : ℕ) (text : List ℕ) w
       never h = true≢false (sym (h .1 .divides) ∙ ap (λ n. mayDivide o (wholeIn o (n .under))) (same-numeral m (h .1 .numeral) is (h .1 .shows)) ∙ divides)
 
   by-shown : (x : Option Numeral) → cond sign (signed text) (ratio text) ≡ x
-      → Tells (then (demanded 22 byte x) (measured o byte)) (λ v. Means o sign text v) (λ t b. Fails 22 byte Numbered t b ⊎ (Numbered × Fails 23 byte Meant t b))
+      → Tells (then (wanted 22 byte x) (measured o byte)) (λ v. Means o sign text v) (λ t b. Fails 22 byte Numbered t b ⊎ (Numbered × Fails 23 byte Meant t b))
   by-shown None is = record {
     right-so = λ v e. right-wrong v _ _ (sym e);
     so-right = λ v h. absurd (never (h .numeral, h .shows));
@@ -148,7 +148,7 @@ module _ {M : Type 0} (o : Ops M) (sign : Bool) (byte : ℕ) (text : List ℕ) w
       never h = some-none (h .0) (sym (shows-shown sign text (h .0) (h .1)) ∙ is)
   by-shown (Some m) is = by-divides m is (mayDivide o (wholeIn o (m .under))) refl
 
-  pub value-tells : Tells (then (demanded 22 byte (cond sign (signed text) (ratio text))) (measured o byte)) (λ v. Means o sign text v) (λ t b. Fails 22 byte Numbered t b ⊎ (Numbered × Fails 23 byte Meant t b))
+  pub value-tells : Tells (then (wanted 22 byte (cond sign (signed text) (ratio text))) (measured o byte)) (λ v. Means o sign text v) (λ t b. Fails 22 byte Numbered t b ⊎ (Numbered × Fails 23 byte Meant t b))
   value-tells = by-shown (cond sign (signed text) (ratio text)) refl
 
 -- starts
@@ -158,7 +158,7 @@ StartIs o true w s = Means o true (w .text) s
 StartIs o false w s = s ≡ o .nought
 
 module _ {M : Type 0} (o : Ops M) (w : Word) where
-  pub start-tells : (g : Bool) → Tells (cond g (then (demanded 22 (byteOf w) (signed (w .text))) (measured o (byteOf w))) (right (o .nought))) (StartIs o g w) (startCheckBy o g w .Wrong)
+  pub start-tells : (g : Bool) → Tells (cond g (then (wanted 22 (byteOf w) (signed (w .text))) (measured o (byteOf w))) (right (o .nought))) (StartIs o g w) (startCheckBy o g w .Wrong)
   start-tells true = value-tells o true (byteOf w) (w .text)
   start-tells false = record {
     right-so = λ s e. sym (right-same _ s e);

@@ -3,7 +3,7 @@
 -- Checked X    what a line, or a part of it, comes to: an X, or a refusal with the byte that it names
 -- checkedBy    what a result of the program comes to, with a function of what is in it
 -- then         what follows where all is right so far
--- demanded     wrong where nothing is there
+-- wanted       wrong where nothing is there
 -- barred       wrong where the test holds
 -- byteOf       a field's first byte, counted from 1
 -- isEmpty      no byte at all
@@ -50,9 +50,9 @@ abbrev pub then : {X Y : Type 0} → Checked X → (X → Checked Y) → Checked
 then (right x) f = f x
 then (wrong t b) f = wrong t b
 
-abbrev pub demanded : {X : Type 0} → ℕ → ℕ → Option X → Checked X
-demanded n byte None = wrong (record { number = n; words = [] }) byte
-demanded n byte (Some x) = right x
+abbrev pub wanted : {X : Type 0} → ℕ → ℕ → Option X → Checked X
+wanted n byte None = wrong (record { number = n; words = [] }) byte
+wanted n byte (Some x) = right x
 
 abbrev pub barred : {X : Type 0} → ℕ → ℕ → Bool → Checked X → Checked X
 barred n byte true rest = wrong (record { number = n; words = [] }) byte
@@ -66,7 +66,7 @@ isEmpty [] = true
 isEmpty (b ∷ bs) = false
 
 abbrev pub counted : Word → Checked ℕ
-counted w = demanded 22 (byteOf w) (plain numberDigits (w .text))
+counted w = wanted 22 (byteOf w) (plain numberDigits (w .text))
 
 module _ {M : Type 0} (o : Ops M) where
   abbrev pub wholeIn : ℕ → M
@@ -80,7 +80,7 @@ module _ {M : Type 0} (o : Ops M) where
   measured byte n = barred 23 byte (not (mayDivide o (wholeIn (n .under)))) (right (amount n))
 
   abbrev pub valueOf : Kind → Word → Checked M
-  valueOf k w = then (demanded 22 (byteOf w) (valueText k (w .text))) (measured (byteOf w))
+  valueOf k w = then (wanted 22 (byteOf w) (valueText k (w .text))) (measured (byteOf w))
 
 abbrev pub hasStart : Kind → Bool
 hasStart Resistor = false
@@ -95,7 +95,7 @@ overOf k c = cond (hasStart k) (c .sixth) (c .fifth)
 module _ {M : Type 0} (o : Ops M) where
   abbrev pub startOf : Kind → Word → Checked M
   startOf k w =
-      cond (hasStart k && not (isEmpty (w .text))) (then (demanded 22 (byteOf w) (signed (w .text))) (measured o (byteOf w))) (right (o .nought))
+      cond (hasStart k && not (isEmpty (w .text))) (then (wanted 22 (byteOf w) (signed (w .text))) (measured o (byteOf w))) (right (o .nought))
 
   abbrev pub cardOf : Kind → Word → Cutting → Checked (Placement M)
   cardOf k number c =

@@ -3,7 +3,7 @@
 ghost use mathlib.Core.Path.{_≡_};
 ghost use mathlib.Core.Bool.{true};
 ghost use Prim.Native.Nat.{_≤_, _^_};
-ghost use Rattle.cards.specs.Cards.{checkedBy, demanded, byteOf, then, measured, counted};
+ghost use Rattle.cards.specs.Cards.{checkedBy, wanted, byteOf, then, measured, counted};
 ghost use Rattle.cards.specs.Numerals.{whole, figured, wordOf, isWhole};
 use crate::digits::NUMBER_DIGITS;
 use crate::digits::digits;
@@ -51,7 +51,7 @@ fn byte(token: Token) -> usize
 // The numeral that a field holds. Refused by 22.
 fn numeral(kind: Kind, token: Token) -> Result<Numeral, Wrong>
     requires { ⌜ wordOf token .place ≤ 2 ^ 63 ⌝ }
-    ensures { λ r. ⌜ checkedBy (λ n. n) r ≡ demanded 22 (byteOf (wordOf (token .entry))) (figured kind (token .entry)) ⌝ }
+    ensures { λ r. ⌜ checkedBy (λ n. n) r ≡ wanted 22 (byteOf (wordOf (token .entry))) (figured kind (token .entry)) ⌝ }
 {
     match figure(kind, token) {
         Some(n) => Ok(n),
@@ -75,7 +75,7 @@ pub(crate) fn count(kind: Kind, token: Token) -> Result<u32, Wrong>
 // A value or a start. Refused by 22 and 23.
 pub(crate) fn measure<N: Arithmetic>(kind: Kind, token: Token) -> Result<N, Wrong>
     requires { ⌜ wordOf token .place ≤ 2 ^ 63 ⌝ }
-    ensures { λ r. ⌜ checkedBy (N·Arithmetic .mean) r ≡ then (demanded 22 (byteOf (wordOf (token .entry))) (figured kind (token .entry))) (measured (N·Arithmetic .ops) (byteOf (wordOf (token .entry)))) ⌝ }
+    ensures { λ r. ⌜ checkedBy (N·Arithmetic .mean) r ≡ then (wanted 22 (byteOf (wordOf (token .entry))) (figured kind (token .entry))) (measured (N·Arithmetic .ops) (byteOf (wordOf (token .entry)))) ⌝ }
 {
     let n = numeral(kind, token)?;
     value_of(n, byte(token))

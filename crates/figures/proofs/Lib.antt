@@ -1,0 +1,3 @@
+pub mod Placed
+pub mod Rounding
+pub mod Summing

@@ -1,0 +1,8 @@
+// Figures on paper: readings and traces.
+mod readings;
+mod takings;
+mod trace;
+
+pub use readings::reading;
+pub use readings::reading_of;
+pub use trace::Trace;

@@ -1,0 +1,4 @@
+pub mod Bits
+pub mod Entries
+pub mod Slips
+pub mod Writing
