@@ -3,7 +3,7 @@
 -- thousand       the float 1000
 -- thousandths    the voltage times 1000, rounded once
 -- nearestWhole   the whole number nearest to a / c, a half away from zero: the one place of that rule
--- Nearest        n is within a half of a / c, and not a half above it... the rule as two bounds
+-- Nearest        n is the whole number nearest to a / c, the upper one at a half: the rule as two bounds
 -- signed         a size with its sign
 -- outOfRange     18
 -- inRange        the reading of a size, 18 from 10 ^ 9 on
