@@ -1,4 +1,4 @@
-// Figures on paper: readings and traces.
+// Readings and traces of voltages in binary64.
 mod readings;
 mod takings;
 mod trace;
