@@ -7,8 +7,8 @@ use Rattle.arithmetic.specs.Ops.{Ops}
 use Rattle.graphs.specs.Graph.{Set, ◌∈◌, Sign}
 use Rattle.graphs.specs.Cuts.{turned}
 use Rattle.sheet.specs.declared.refusal.Shown.{Shown}
-use Rattle.stories.specs.Assembly.{through, taken, Parts}
-use Rattle.stories.specs.Steps.{tree_voltage, voltage_of, flow_of, current_of}
+use Rattle.tree_stories.specs.Assembly.{through, taken, Parts}
+use Rattle.tree_stories.specs.Steps.{tree_voltage, voltage_of, flow_of, current_of}
 use Rattle.topology.specs.Matrices.{entry}
 use Rattle.topology.specs.Words.{bits}
 use Rattle.assembly.specs.declared.frame.Frame.{Frame}

@@ -14,7 +14,7 @@ use Rattle.graphs.specs.Cuts.{cut_row}
 use Rattle.topology.specs.Networks.{kind_class, class_found, graph_of, placed, class_at}
 use Rattle.topology.specs.Rows.{shown}
 use Rattle.topology.specs.Words.{bits}
-use Rattle.stories.specs.Networks.{kind_found, kind_at, is_passive, is_current, is_voltage}
+use Rattle.tree_stories.specs.Networks.{kind_found, kind_at, is_passive, is_current, is_voltage}
 use Rattle.assembly.specs.Frames.{nothing}
 
 -- the cut rows of the tree branches below n

@@ -7,7 +7,7 @@ use Rattle.graphs.specs.Cuts.{turned}
 use Rattle.linear.specs.Elimination.{cell}
 use Rattle.topology.specs.Matrices.{entry}
 use Rattle.topology.specs.Words.{bits}
-use Rattle.stories.specs.Assembly.{through, taken, agree, Parts, entry_of, fed, levelled, right_of, size, with_row}
+use Rattle.tree_stories.specs.Assembly.{through, taken, agree, Parts, entry_of, fed, levelled, right_of, size, with_row}
 use Rattle.assembly.specs.declared.frame.Frame.{Frame}
 use Rattle.assembly.specs.Frames.{cut_at, gathered, scaled, entered, Frames, Holds}
 use Rattle.assembly.proofs.Turns.{turns_alike, one_more}

@@ -1,7 +1,7 @@
 // Sums of signed terms, lower numbers first: each starts where it is told to and skips zero signs.
 ghost use Rattle.std.specs.Prelude.{◌≡◌, ℕ, ◌+◌, ◌<◌, ◌≤◌, map, if◌then◌else◌, slice_index_or};
 ghost use Rattle.assembly.specs.Frames.{gathered, scaled};
-ghost use Rattle.stories.specs.Assembly.{taken};
+ghost use Rattle.tree_stories.specs.Assembly.{taken};
 ghost use Rattle.topology.specs.Matrices.{entry};
 ghost use Rattle.topology.specs.Rows.{sign_of};
 ghost use Rattle.topology.specs.Words.{bits};

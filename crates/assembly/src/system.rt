@@ -4,7 +4,7 @@ ghost use Rattle.std.specs.Prelude.{◌≡◌, ℕ, ◌+◌, ◌<◌, map, if◌
 ghost use Rattle.assembly.specs.Frames.{Frames, Holds, Levels, levels_of, entered, system_of};
 ghost use Rattle.graphs.specs.Graph.{◌∈◌, count};
 ghost use Rattle.linear.specs.Elimination.{cell};
-ghost use Rattle.stories.specs.Assembly.{Parts, entry_of, fed, levelled, right_of, with_row};
+ghost use Rattle.tree_stories.specs.Assembly.{Parts, entry_of, fed, levelled, right_of, with_row};
 ghost use Rattle.topology.specs.Words.{bits};
 
 use crate::area::put;

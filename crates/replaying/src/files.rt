@@ -2,7 +2,7 @@
 use crate::stop::{Stop, Text, expect, readable};
 use crate::stream::Stream;
 use crate::words::Words;
-use printed_key::printed_key;
+use whole_key::printed_key;
 use std::alloc::Global;
 
 // The length in a line of a name and a length.

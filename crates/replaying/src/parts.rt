@@ -2,7 +2,7 @@
 use crate::files::replay_file;
 use crate::progress::{Progress, Report};
 use crate::stop::{Stop, readable};
-use crate::stories::replay_story;
+use crate::tree_stories::replay_story;
 use crate::stream::Stream;
 use std::alloc::Global;
 

@@ -5,7 +5,7 @@ ghost use Rattle.station.specs.Station.{in_front, Keyed, tree_mark, mark_of};
 ghost use Rattle.topology.specs.Trees.{tree_of};
 
 use cards::read_cards;
-use printed_key::{LONGEST, fresh_rows, printed_key};
+use whole_key::{LONGEST, fresh_rows, printed_key};
 use sheet::{Plan, Refusal};
 use std::alloc::Global;
 use topology::tree;

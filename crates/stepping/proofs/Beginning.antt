@@ -6,7 +6,7 @@ use Rattle.sheet.specs.declared.row.Row.{Row}
 use Rattle.sheet.specs.Calls.{Sheet, Call, blank, place, lift, set_value, outcome, left, Does}
 use Rattle.sheet.specs.Meanings.{meanings}
 use Rattle.sheet.specs.Refusals.{Answer, granted, refused, refuse, Told, Verdict, pass, verdict_of}
-use Rattle.stories.specs.Stories.{StoryCall, on_sheet, blank_sheet, run}
+use Rattle.tree_stories.specs.Stories.{StoryCall, on_sheet, blank_sheet, run}
 use Rattle.stepping.specs.Telling.{CallsTellStories}
 
 -- a blank that is granted

@@ -7,11 +7,11 @@ ghost use Rattle.sheet.specs.Refusals.{granted, verdict};
 ghost use Rattle.sheet.specs.declared.row.Row.{Row};
 ghost use Rattle.stepping.specs.Calls.{StepDoes, Continues};
 ghost use Rattle.stepping.specs.Steps.{Worked, Settles, Others, unsound_at, renewed_at, given};
-ghost use Rattle.stories.specs.Assembly.{through};
-ghost use Rattle.stories.specs.Networks.{any};
-ghost use Rattle.stories.specs.Steps.{renewed};
-ghost use Rattle.stories.specs.Stories.{StoryCall, run};
-ghost use Rattle.stories.specs.Theorem.{TheoremOfStories, TreesOfStories};
+ghost use Rattle.tree_stories.specs.Assembly.{through};
+ghost use Rattle.tree_stories.specs.Networks.{any};
+ghost use Rattle.tree_stories.specs.Steps.{renewed};
+ghost use Rattle.tree_stories.specs.Stories.{StoryCall, run};
+ghost use Rattle.tree_stories.specs.Theorem.{TheoremOfStories, TreesOfStories};
 ghost use Rattle.topology.specs.Trees.{tree_of};
 
 use crate::area::clear;

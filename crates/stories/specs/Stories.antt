@@ -12,23 +12,22 @@ use Rattle.sheet.specs.declared.row.Row.{Row}
 use Rattle.sheet.specs.Calls.{Sheet, Call, blank, place, lift, set_value, zero_row, outcome, left}
 use Rattle.sheet.specs.Plans.{empty_plan}
 use Rattle.sheet.specs.Refusals.{Answer, granted, refused}
-use Rattle.sheet.specs.Meanings.{meanings}
-use Rattle.stories.specs.Steps.{row_at, stepped}
+use Rattle.stories.specs.Steps.{numbers, row_at, Showing, stepped}
 
 pub data StoryCall (M : Type 0) : Type 0 where
   on_sheet : ℕ → Call M → StoryCall M
   step : ℕ → ℕ → M → StoryCall M
 
 abbrev pub blank_sheet : {M : Type 0} → Ops M → Sheet M
-blank_sheet o = record { plan = empty_plan; rows = replicate 32 (zero_row (meanings o)) }
+blank_sheet o = record { plan = empty_plan; rows = replicate 32 (zero_row (numbers o)) }
 
-abbrev pub answer : {M : Type 0} → Ops M → StoryCall M → Sheet M → Answer (Sheet M)
-answer o (on_sheet n c) s = outcome (meanings o) n c s
-answer o (step n area h) s = stepped o n area h s
+abbrev pub answer : {M : Type 0} → Ops M → Showing → StoryCall M → Sheet M → Answer (Sheet M)
+answer o w (on_sheet n c) s = outcome (numbers o) n c s
+answer o w (step n area h) s = stepped o w n area h s
 
-unfoldable pub run : {M : Type 0} → Ops M → List (StoryCall M) → Sheet M
-run o [] = blank_sheet o
-run o (c ∷ cs) = left (run o cs) (answer o c (run o cs))
+unfoldable pub run : {M : Type 0} → Ops M → Showing → List (StoryCall M) → Sheet M
+run o w [] = blank_sheet o
+run o w (c ∷ cs) = left (run o w cs) (answer o w c (run o w cs))
 
 -- the start after one more call, from the one before it and the call's answer
 abbrev pub new_start : {M : Type 0} → ℕ → StoryCall M → M → Answer (Sheet M) → M
@@ -49,10 +48,10 @@ new_sum o f k (on_sheet n (set_value j v)) old a = old
 new_sum o f k (step n area h) old (granted t) = o.add old (o.mul h (f (row_at o t.rows k)))
 new_sum o f k (step n area h) old (refused t) = old
 
-unfoldable pub start_of : {M : Type 0} → Ops M → List (StoryCall M) → ℕ → M
-start_of o [] k = o.nought
-start_of o (c ∷ cs) k = new_start k c (start_of o cs k) (answer o c (run o cs))
+unfoldable pub start_of : {M : Type 0} → Ops M → Showing → List (StoryCall M) → ℕ → M
+start_of o w [] k = o.nought
+start_of o w (c ∷ cs) k = new_start k c (start_of o w cs k) (answer o w c (run o w cs))
 
-unfoldable pub sum_of : {M : Type 0} → Ops M → (Row M → M) → List (StoryCall M) → ℕ → M
-sum_of o f [] k = o.nought
-sum_of o f (c ∷ cs) k = new_sum o f k c (sum_of o f cs k) (answer o c (run o cs))
+unfoldable pub sum_of : {M : Type 0} → Ops M → Showing → (Row M → M) → List (StoryCall M) → ℕ → M
+sum_of o w f [] k = o.nought
+sum_of o w f (c ∷ cs) k = new_sum o f k c (sum_of o w f cs k) (answer o w c (run o w cs))

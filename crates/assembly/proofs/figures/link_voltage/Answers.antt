@@ -1,6 +1,6 @@
 use Rattle.std.proofs.Common.{◌≡◌, sym, ap, ◌∙◌, arith}
 use Rattle.topology.specs.Matrices.{entry}
-use Rattle.stories.specs.Assembly.{through}
+use Rattle.tree_stories.specs.Assembly.{through}
 use Rattle.assembly.specs.Figures.{link_voltage}
 use Rattle.assembly.proofs.Turns.{none_made, one_more, all_made}
 use Rattle.assembly.proofs.Filling.{link_turn, link-turn}

@@ -1,6 +1,6 @@
 use Rattle.std.proofs.Common.{◌≡◌, ℕ, map}
-use Rattle.stories.specs.Assembly.{through, Parts}
-use Rattle.stories.specs.Steps.{treeVoltage}
+use Rattle.tree_stories.specs.Assembly.{through, Parts}
+use Rattle.tree_stories.specs.Steps.{treeVoltage}
 use Rattle.assembly.specs.Frames.{Frames}
 use Rattle.assembly.specs.Figures.{all, Filled}
 use Rattle.assembly.proofs.Filling.{link_turn}

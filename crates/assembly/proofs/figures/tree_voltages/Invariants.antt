@@ -1,7 +1,7 @@
 use Rattle.std.proofs.Common.{◌≡◌, ◌≤◌, map}
 use Rattle.graphs.specs.Graph.{count}
-use Rattle.stories.specs.Assembly.{Parts}
-use Rattle.stories.specs.Steps.{treeVoltage}
+use Rattle.tree_stories.specs.Assembly.{Parts}
+use Rattle.tree_stories.specs.Steps.{treeVoltage}
 use Rattle.topology.specs.Words.{bits}
 use Rattle.assembly.specs.Frames.{Frames, Levels, levels_of}
 use Rattle.assembly.specs.Figures.{all, found, Filled}

@@ -1,6 +1,6 @@
 use Rattle.std.proofs.Common.{ℕ, map}
-use Rattle.stories.specs.Assembly.{Parts}
-use Rattle.stories.specs.Steps.{treeVoltage, voltageOf, flow_of, currentOf}
+use Rattle.tree_stories.specs.Assembly.{Parts}
+use Rattle.tree_stories.specs.Steps.{treeVoltage, voltageOf, flow_of, currentOf}
 use Rattle.assembly.specs.Frames.{Frames, Holds}
 use Rattle.assembly.specs.Figures.{all, in_use, Filled}
 use Rattle.assembly.proofs.figures.voltages_of.Given as goal

@@ -1,5 +1,5 @@
 use Rattle.std.proofs.Common.{◌≡◌, cond, ap, ◌∙◌, arith}
-use Rattle.stories.specs.Assembly.{taken}
+use Rattle.tree_stories.specs.Assembly.{taken}
 use Rattle.assembly.specs.Frames.{gathered}
 use Rattle.assembly.proofs.Turns.{none_made, one_more, all_made}
 use Rattle.assembly.proofs.gathering.gather.Goals as goal

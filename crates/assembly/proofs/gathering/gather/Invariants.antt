@@ -1,5 +1,5 @@
 use Rattle.std.proofs.Common.{◌≡◌, ◌+◌, map, get_or}
-use Rattle.stories.specs.Assembly.{through}
+use Rattle.tree_stories.specs.Assembly.{through}
 use Rattle.topology.specs.Matrices.{entry}
 use Rattle.topology.specs.Words.{bits}
 use Rattle.assembly.proofs.Reading.{turn}

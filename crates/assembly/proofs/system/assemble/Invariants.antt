@@ -1,6 +1,6 @@
 use Rattle.std.proofs.Common.{◌≡◌, ◌≤◌, map}
 use Rattle.graphs.specs.Graph.{count}
-use Rattle.stories.specs.Assembly.{through, Parts}
+use Rattle.tree_stories.specs.Assembly.{through, Parts}
 use Rattle.topology.specs.Words.{bits}
 use Rattle.assembly.specs.Frames.{Frames, Holds, Levels, levels_of}
 use Rattle.assembly.proofs.Reading.{row_turn}

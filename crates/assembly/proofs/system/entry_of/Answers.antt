@@ -1,6 +1,6 @@
 use Rattle.std.proofs.Common.{◌+◌, map, get_or, ap, ◌∙◌, ap₂}
 use Rattle.graphs.specs.Graph.{Sign}
-use Rattle.stories.specs.Assembly.{agree}
+use Rattle.tree_stories.specs.Assembly.{agree}
 use Rattle.topology.specs.Matrices.{entry}
 use Rattle.topology.specs.Words.{bits}
 use Rattle.assembly.specs.Frames.{gathered}

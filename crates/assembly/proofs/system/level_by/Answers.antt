@@ -1,6 +1,6 @@
 use Rattle.std.proofs.Common.{cond, map, sym, ap, ◌∙◌, ap₂, arith}
 use Rattle.graphs.specs.Cuts.{turned}
-use Rattle.stories.specs.Assembly.{agree, levelled}
+use Rattle.tree_stories.specs.Assembly.{agree, levelled}
 use Rattle.topology.specs.Matrices.{entry}
 use Rattle.assembly.proofs.Reading.{level-gathered}
 use Rattle.assembly.proofs.system.level_by.Goals as goal

@@ -1,6 +1,6 @@
 use Rattle.std.proofs.Common.{◌≡◌, map}
 use Rattle.graphs.specs.Graph.{◌∈◌}
-use Rattle.stories.specs.Assembly.{through, Parts}
+use Rattle.tree_stories.specs.Assembly.{through, Parts}
 use Rattle.assembly.specs.Frames.{Frames, Holds, Levels, levels_of}
 use Rattle.assembly.proofs.Reading.{right_turn}
 use Rattle.assembly.proofs.system.right_of.Given as goal

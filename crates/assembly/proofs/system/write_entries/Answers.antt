@@ -1,7 +1,7 @@
 use Rattle.std.proofs.Common.{◌≡◌, ℕ, cond, map, set, sym, ap, ◌∙◌, ap₂, arith}
 use Rattle.graphs.specs.Graph.{count}
 use Rattle.linear.specs.Elimination.{cell}
-use Rattle.stories.specs.Assembly.{through, entry_of}
+use Rattle.tree_stories.specs.Assembly.{through, entry_of}
 use Rattle.topology.specs.Words.{bits}
 use Rattle.assembly.specs.Frames.{Holds, entered}
 use Rattle.assembly.proofs.Turns.{none_made, one_more, all_made}

@@ -1,5 +1,5 @@
 use Rattle.std.proofs.Common.{◌≡◌, refl, ap, ◌∙◌, arith}
-use Rattle.stories.specs.Networks.{any}
+use Rattle.tree_stories.specs.Networks.{any}
 use Rattle.stepping.proofs.Rows.{none-asked, one-asked}
 use Rattle.stepping.proofs.calls.are_unsound.Goals as goal
 

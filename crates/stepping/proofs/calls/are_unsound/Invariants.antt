@@ -1,5 +1,5 @@
 use Rattle.std.proofs.Common.{◌≡◌, map}
-use Rattle.stories.specs.Networks.{any}
+use Rattle.tree_stories.specs.Networks.{any}
 use Rattle.stepping.specs.Steps.{unsoundAt}
 use Rattle.stepping.proofs.calls.are_unsound.Given as goal
 

@@ -1,6 +1,6 @@
 use Rattle.std.proofs.Common.{◌≡◌, map}
 use Rattle.sheet.specs.Meanings.{meant_row}
-use Rattle.stories.specs.Assembly.{through}
+use Rattle.tree_stories.specs.Assembly.{through}
 use Rattle.stepping.specs.Steps.{renewedAt, given, Others}
 use Rattle.stepping.proofs.calls.renew_rows.Given as given'
 

@@ -1,0 +1,77 @@
+-- The theorem of stories. Assumes nothing.
+--
+-- Granted         the answer is no refusal
+-- OnlyZeroDead    every dead list is zero at every placed branch
+-- Solved          a step of length h: granted exactly if only the zero list is dead; the rows it leaves are the one live list
+-- MeetsNeither    an answer that is no refusal by 12 or 13
+-- BestTree p met  met holds exactly if some tree is proper: it has every voltage source and no current source; the tree's
+--                 call then grants one, with the most capacitors (class 1) and the fewest inductors (class 3)
+-- Sums            value × change of voltage is the sum of step length × current, at a capacitor; of current and voltage, at an inductor
+use Rattle.std.specs.Prelude.{◌≡◌, ℕ, ◌≤◌, true, ◌↔◌, List, Some}
+use Rattle.arithmetic.specs.Ops.{Ops, may_divide}
+use Rattle.sheet.specs.declared.kind.Kind.TheVariants.{Inductor, Capacitor}
+use Rattle.sheet.specs.declared.plan.Plan.{Plan}
+use Rattle.sheet.specs.Calls.{Sheet}
+use Rattle.sheet.specs.Refusals.{Answer, granted, refused}
+use Rattle.graphs.specs.Graph.{Set, ◌∈◌, count}
+use Rattle.graphs.specs.Greedy.{of_class}
+use Rattle.topology.specs.Meanings.{ProperTree}
+use Rattle.topology.specs.Networks.{placed, class_at}
+use Rattle.topology.specs.Trees.{tree_of}
+use Rattle.topology.specs.Words.{bits}
+use Rattle.tree_stories.specs.Networks.{kind_at}
+use Rattle.tree_stories.specs.Steps.{row_at, stepped}
+use Rattle.tree_stories.specs.Stories.{StoryCall, run, start_of, sum_of}
+use Rattle.tree_stories.specs.Laws.{Live, Dead, AllZero}
+
+pub record Granted {X : Type 0} (a : Answer X) : Type 0 where
+  pub what : X
+  pub is : a ≡ granted what
+
+abbrev pub OnlyZeroDead : {M : Type 0} → Ops M → M → Sheet M → Type 0
+OnlyZeroDead o h s = (i u : ℕ → _) → Dead o s.plan (row_at o s.rows) h i u → AllZero o s.plan i u
+
+pub record Solved {M : Type 0} (o : Ops M) (h : M) (s : Sheet M) (a : Answer (Sheet M)) : Type 0 where
+  pub exactly : Granted a ↔ OnlyZeroDead o h s
+  pub plan : (t : Sheet M) → a ≡ granted t → t.plan ≡ s.plan
+  pub obeys :
+      (t : Sheet M) → a ≡ granted t →
+      Live o s.plan (row_at o s.rows) h (λ k. (row_at o t.rows k).current) (λ k. (row_at o t.rows k).voltage)
+  pub only :
+      (t : Sheet M) → a ≡ granted t → (i u : ℕ → M) → Live o s.plan (row_at o s.rows) h i u →
+      (k : ℕ) → k ∈ placed s.plan → (i k ≡ (row_at o t.rows k).current) × (u k ≡ (row_at o t.rows k).voltage)
+
+abbrev pub RefusedBy : {X : Type 0} → ℕ → Answer X → Type 0
+RefusedBy n (granted x) = ⊥
+RefusedBy n (refused t) = t.number ≡ n
+
+abbrev pub MeetsNeither : {X : Type 0} → Answer X → Type 0
+MeetsNeither a = (RefusedBy 12 a → ⊥) × (RefusedBy 13 a → ⊥)
+
+pub record BestTree (p : Plan) (met : Type 0) : Type 0 where
+  pub exactly : met ↔ ((S : Set) × ProperTree p S)
+  pub ours : (S : Set) → ProperTree p S → (w : ℕ) × (tree_of p ≡ granted w) × ProperTree p (bits w)
+  pub most : (S : Set) → ProperTree p S → (w : ℕ) → tree_of p ≡ granted w → count (of_class (class_at p) 1 S) 32 ≤ count (of_class (class_at p) 1 (bits w)) 32
+  pub fewest : (S : Set) → ProperTree p S → (w : ℕ) → tree_of p ≡ granted w → count (of_class (class_at p) 3 (bits w)) 32 ≤ count (of_class (class_at p) 3 S) 32
+
+pub record Sums {M : Type 0} (o : Ops M) (cs : List (StoryCall M)) (k : ℕ) : Type 0 where
+  pub charge :
+      kind_at (run o cs).plan k ≡ Some Capacitor →
+      o.mul (row_at o (run o cs).rows k).value (o.sub (row_at o (run o cs).rows k).voltage (start_of o cs k)) ≡ sum_of o (λ r. r.current) cs k
+  pub flux :
+      kind_at (run o cs).plan k ≡ Some Inductor →
+      o.mul (row_at o (run o cs).rows k).value (o.sub (row_at o (run o cs).rows k).current (start_of o cs k)) ≡ sum_of o (λ r. r.voltage) cs k
+
+-- in every arithmetic: after every story, a step of a sound length that is not zero, with 32 rows and at least 304 places
+abbrev pub TreesOfStories : {M : Type 0} → Ops M → Type 0
+TreesOfStories o =
+    (cs : List (StoryCall _)) (h : _) (area : ℕ) → o.is_sound h ≡ true → may_divide o h ≡ true → 304 ≤ area →
+    BestTree (run o cs).plan (MeetsNeither (stepped o 32 area h (run o cs)))
+
+-- in an exact one
+pub record TheoremOfStories {M : Type 0} (o : Ops M) : Type 0 where
+  pub solved :
+      (cs : List (StoryCall M)) (h : M) (area : ℕ) → may_divide o h ≡ true → 304 ≤ area →
+      Solved o h (run o cs) (stepped o 32 area h (run o cs))
+  pub trees : TreesOfStories o
+  pub sums : (cs : List (StoryCall M)) (k : ℕ) → Sums o cs k

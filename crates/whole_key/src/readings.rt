@@ -1,0 +1,88 @@
+// The block of readings: voltages in whole thousandths after one step in binary64.
+ghost use Rattle.std.specs.Prelude.{◌≡◌, ◌<◌, length, None, string_bytes, slice_index_or};
+ghost use Rattle.whole_key.specs.Blocks.{reading_here, readings_below, readings_after, reading_line, reading_lines, step_lines};
+ghost use Rattle.whole_key.specs.Text.{Adds, text_of};
+ghost use Rattle.sheet.specs.Refusals.{told};
+
+use crate::lines::{push_reading, push_refusal};
+use arithmetic::Arithmetic;
+use figures::reading;
+use sheet::{Plan, Refusal, Row};
+use std::alloc::{AllocError, Global};
+use stepping::step;
+use topology::is_placed;
+
+// The reading of the branch k; none at an empty place.
+fn reading_at(plan: &Plan, rows: &[Row<f64>], k: u32) -> Result<Option<i32>, Refusal>
+    ensures { told result ≡ reading_here plan.now rows.now k }
+{
+    if !is_placed(plan, k) {
+        return Ok(None);
+    }
+    Ok(Some(reading(plan, rows, k)?))
+}
+
+// The readings of all branches, or the first that is refused.
+fn readings(plan: &Plan, rows: &[Row<f64>]) -> Result<[Option<i32>; 32], Refusal>
+    ensures { told result ≡ readings_below plan.now rows.now 32 }
+{
+    let mut readings = [None; 32];
+    for k in 0..32 {
+        readings[k] = reading_at(plan, rows, k as u32)?;
+    }
+    Ok(readings)
+}
+
+// The readings of all branches after one step of length 1.
+fn stepped_readings(plan: &Plan, rows: &mut [Row<f64>]) -> Result<[Option<i32>; 32], Refusal>
+    requires { length rows.old ≡ 32 }
+    ensures { told result ≡ readings_after (record { plan = plan.entry.now; rows = rows.old }) }
+{
+    let mut area = [<f64 as Arithmetic>::zero(); 304];
+    step(plan, rows, <f64 as Arithmetic>::one(), &mut area)?;
+    readings(plan, rows)
+}
+
+fn push_reading_at(
+    heap: Global,
+    text: &mut String,
+    readings: &[Option<i32>; 32],
+    k: u32,
+) -> Result<(), AllocError>
+    requires { k < 32 }
+    ensures { Adds result (string_bytes text.old) (string_bytes text.new) (text_of (reading_line k (slice_index_or readings.now k None))) }
+{
+    match readings[k as usize] {
+        Some(reading) => push_reading(heap, text, k, reading),
+        None => Ok(()),
+    }
+}
+
+fn push_taken(
+    heap: Global,
+    text: &mut String,
+    readings: &[Option<i32>; 32],
+) -> Result<(), AllocError>
+    ensures { Adds result (string_bytes text.old) (string_bytes text.new) (text_of (reading_lines readings.now)) }
+{
+    for k in 0..32 {
+        push_reading_at(heap, text, readings, k)?;
+    }
+    Ok(())
+}
+
+// A line for each branch, or one refusal in place of them all.
+pub(crate) fn push_readings(
+    heap: Global,
+    text: &mut String,
+    plan: &Plan,
+    rows: &mut [Row<f64>],
+) -> Result<(), AllocError>
+    requires { length rows.old ≡ 32 }
+    ensures { Adds result (string_bytes text.old) (string_bytes text.new) (text_of (step_lines (record { plan = plan.entry.now; rows = rows.old }))) }
+{
+    match stepped_readings(plan, rows) {
+        Ok(readings) => push_taken(heap, text, &readings),
+        Err(refusal) => push_refusal(heap, text, refusal),
+    }
+}
