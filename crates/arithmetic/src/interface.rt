@@ -62,7 +62,7 @@ pub trait Arithmetic: Copy {
 
 // Whether a value may be divided by: all but zero may. Every place that refuses a divisor asks this.
 pub fn may_divide<N: Arithmetic>(x: N) -> bool
-    ensures { result ≡ may_divide ops (mean x) }
+    ensures { result ≡ may_divide N.ops (N.mean x) }
 {
     !x.is_zero()
 }

@@ -4,7 +4,7 @@ ghost use Rattle.std.specs.Prelude.{◌≡◌, map, slice_index_or, slice_set};
 use arithmetic::Arithmetic;
 
 pub fn get<N: Arithmetic>(area: &[N], place: usize) -> N
-    ensures { mean result ≡ slice_index_or (map mean area.now) place ops.nought }
+    ensures { N.mean result ≡ slice_index_or (map N.mean area.now) place N.ops.nought }
 {
     if place < area.len() {
         area[place]
@@ -14,7 +14,7 @@ pub fn get<N: Arithmetic>(area: &[N], place: usize) -> N
 }
 
 pub fn put<N: Arithmetic>(area: &mut [N], place: usize, value: N)
-    ensures { map mean area.new ≡ slice_set (map mean area.old) place (mean value) }
+    ensures { map N.mean area.new ≡ slice_set (map N.mean area.old) place (N.mean value) }
 {
     if place < area.len() {
         area[place] = value;

@@ -25,7 +25,7 @@ fn tree_voltage<N: Arithmetic>(
     row: u32,
 ) -> N
     requires { t < 32 }
-    ensures { (c : Parts N.Arithmetic.Meaning) → Frames c frame.now → Levels c (levels_of ops mean rows.now) → row ≡ count c.unknown t → mean result ≡ tree_voltage c (found ops (map mean area.now) unknowns) t }
+    ensures { (c : Parts N.Meaning) → Frames c frame.now → Levels c (levels_of N.ops N.mean rows.now) → row ≡ count c.unknown t → N.mean result ≡ tree_voltage c (found N.ops (map N.mean area.now) unknowns) t }
 {
     if has(frame.fixed, t) {
         level(rows, t)
@@ -35,14 +35,14 @@ fn tree_voltage<N: Arithmetic>(
 }
 
 fn zeros<N: Arithmetic>() -> [N; 32]
-    ensures { length (map mean result) ≡ 32 }
+    ensures { length (map N.mean result) ≡ 32 }
 {
     [N::zero(); 32]
 }
 
 fn set_at<N: Arithmetic>(figures: &mut [N; 32], k: u32, value: N)
     requires { k < 32 }
-    ensures { map mean figures.new ≡ slice_set (map mean figures.old) k (mean value) }
+    ensures { map N.mean figures.new ≡ slice_set (map N.mean figures.old) k (N.mean value) }
 {
     figures[k as usize] = value;
 }
@@ -54,7 +54,7 @@ fn tree_voltages<N: Arithmetic>(
     rows: &[Row<N>],
     unknowns: u32,
 ) -> [N; 32]
-    ensures { (c : Parts N.Arithmetic.Meaning) → Frames c frame.now → Levels c (levels_of ops mean rows.now) → Filled ops all (tree_voltage c (found ops (map mean area.now) unknowns)) 32 (map mean result) }
+    ensures { (c : Parts N.Meaning) → Frames c frame.now → Levels c (levels_of N.ops N.mean rows.now) → Filled N.ops all (tree_voltage c (found N.ops (map N.mean area.now) unknowns)) 32 (map N.mean result) }
 {
     let mut voltages = zeros();
     let mut row = 0;
@@ -69,7 +69,7 @@ fn tree_voltages<N: Arithmetic>(
 // The voltage of a link: the tree's voltages by the signs of their cuts.
 fn link_voltage<N: Arithmetic>(frame: &Frame, tree: &[N], k: u32) -> N
     requires { k < 32 }
-    ensures { (c : Parts N.Arithmetic.Meaning) (x : ℕ → N.Arithmetic.Meaning) → Frames c frame.now → Filled ops all (tree_voltage c x) 32 (map mean tree.now) → mean result ≡ link_voltage ops c x k }
+    ensures { (c : Parts N.Meaning) (x : ℕ → N.Meaning) → Frames c frame.now → Filled N.ops all (tree_voltage c x) 32 (map N.mean tree.now) → N.mean result ≡ link_voltage N.ops c x k }
 {
     let mut sum = N::zero();
     for t in 0..32 {
@@ -81,7 +81,7 @@ fn link_voltage<N: Arithmetic>(frame: &Frame, tree: &[N], k: u32) -> N
 
 fn voltage_of<N: Arithmetic>(frame: &Frame, tree: &[N], k: u32) -> N
     requires { k < 32 }
-    ensures { (c : Parts N.Arithmetic.Meaning) (x : ℕ → N.Arithmetic.Meaning) → Frames c frame.now → Filled ops all (tree_voltage c x) 32 (map mean tree.now) → mean result ≡ voltage_of ops c x k }
+    ensures { (c : Parts N.Meaning) (x : ℕ → N.Meaning) → Frames c frame.now → Filled N.ops all (tree_voltage c x) 32 (map N.mean tree.now) → N.mean result ≡ voltage_of N.ops c x k }
 {
     if has(frame.tree, k) {
         get(tree, k as usize)
@@ -91,7 +91,7 @@ fn voltage_of<N: Arithmetic>(frame: &Frame, tree: &[N], k: u32) -> N
 }
 
 fn voltages_of<N: Arithmetic>(frame: &Frame, tree: &[N]) -> [N; 32]
-    ensures { (c : Parts N.Arithmetic.Meaning) (x : ℕ → N.Arithmetic.Meaning) → Frames c frame.now → Filled ops all (tree_voltage c x) 32 (map mean tree.now) → Filled ops all (voltage_of ops c x) 32 (map mean result) }
+    ensures { (c : Parts N.Meaning) (x : ℕ → N.Meaning) → Frames c frame.now → Filled N.ops all (tree_voltage c x) 32 (map N.mean tree.now) → Filled N.ops all (voltage_of N.ops c x) 32 (map N.mean result) }
 {
     let mut voltages = zeros();
     for k in 0..32 {
@@ -104,7 +104,7 @@ fn voltages_of<N: Arithmetic>(frame: &Frame, tree: &[N]) -> [N; 32]
 // The current of a branch that is no voltage source: conductance × voltage + feed, or the feed alone.
 fn flow_of<N: Arithmetic>(frame: &Frame, area: &[N], voltages: &[N], k: u32) -> N
     requires { k < 32 }
-    ensures { (c : Parts N.Arithmetic.Meaning) (x : ℕ → N.Arithmetic.Meaning) → Frames c frame.now → Holds ops c (map mean area.now) → Filled ops all (voltage_of ops c x) 32 (map mean voltages.now) → c.feeding k ≡ true → mean result ≡ flow_of ops c x k }
+    ensures { (c : Parts N.Meaning) (x : ℕ → N.Meaning) → Frames c frame.now → Holds N.ops c (map N.mean area.now) → Filled N.ops all (voltage_of N.ops c x) 32 (map N.mean voltages.now) → c.feeding k ≡ true → N.mean result ≡ flow_of N.ops c x k }
 {
     let at = k as usize;
     let feed = get(area, 32 + at);
@@ -116,7 +116,7 @@ fn flow_of<N: Arithmetic>(frame: &Frame, area: &[N], voltages: &[N], k: u32) -> 
 }
 
 fn flows_of<N: Arithmetic>(frame: &Frame, area: &[N], voltages: &[N]) -> [N; 32]
-    ensures { (c : Parts N.Arithmetic.Meaning) (x : ℕ → N.Arithmetic.Meaning) → Frames c frame.now → Holds ops c (map mean area.now) → Filled ops all (voltage_of ops c x) 32 (map mean voltages.now) → Filled ops c.feeding (flow_of ops c x) 32 (map mean result) }
+    ensures { (c : Parts N.Meaning) (x : ℕ → N.Meaning) → Frames c frame.now → Holds N.ops c (map N.mean area.now) → Filled N.ops all (voltage_of N.ops c x) 32 (map N.mean voltages.now) → Filled N.ops c.feeding (flow_of N.ops c x) 32 (map N.mean result) }
 {
     let mut flows = zeros();
     for k in 0..32 {
@@ -129,7 +129,7 @@ fn flows_of<N: Arithmetic>(frame: &Frame, area: &[N], voltages: &[N]) -> [N; 32]
 // The current of a branch: that of a voltage source is what the links of its cut leave.
 fn current_of<N: Arithmetic>(frame: &Frame, flows: &[N], k: u32) -> N
     requires { k < 32 }
-    ensures { (c : Parts N.Arithmetic.Meaning) (x : ℕ → N.Arithmetic.Meaning) → Frames c frame.now → Filled ops c.feeding (flow_of ops c x) 32 (map mean flows.now) → in_use c k ≡ true → mean result ≡ current_of ops c x k }
+    ensures { (c : Parts N.Meaning) (x : ℕ → N.Meaning) → Frames c frame.now → Filled N.ops c.feeding (flow_of N.ops c x) 32 (map N.mean flows.now) → in_use c k ≡ true → N.mean result ≡ current_of N.ops c x k }
 {
     if has(frame.fixed, k) {
         gather(frame.link, turn_row(frame.cut(k)), flows, 0, N::zero())
@@ -139,7 +139,7 @@ fn current_of<N: Arithmetic>(frame: &Frame, flows: &[N], k: u32) -> N
 }
 
 fn currents_of<N: Arithmetic>(frame: &Frame, flows: &[N]) -> [N; 32]
-    ensures { (c : Parts N.Arithmetic.Meaning) (x : ℕ → N.Arithmetic.Meaning) → Frames c frame.now → Filled ops c.feeding (flow_of ops c x) 32 (map mean flows.now) → Filled ops (in_use c) (current_of ops c x) 32 (map mean result) }
+    ensures { (c : Parts N.Meaning) (x : ℕ → N.Meaning) → Frames c frame.now → Filled N.ops c.feeding (flow_of N.ops c x) 32 (map N.mean flows.now) → Filled N.ops (in_use c) (current_of N.ops c x) 32 (map N.mean result) }
 {
     let mut currents = zeros();
     for k in 0..32 {
@@ -156,7 +156,7 @@ pub fn branch_voltages<N: Arithmetic>(
     rows: &[Row<N>],
     unknowns: u32,
 ) -> [N; 32]
-    ensures { (c : Parts N.Arithmetic.Meaning) → Frames c frame.now → Levels c (levels_of ops mean rows.now) → Filled ops all (voltage_of ops c (found ops (map mean area.now) unknowns)) 32 (map mean result) }
+    ensures { (c : Parts N.Meaning) → Frames c frame.now → Levels c (levels_of N.ops N.mean rows.now) → Filled N.ops all (voltage_of N.ops c (found N.ops (map N.mean area.now) unknowns)) 32 (map N.mean result) }
 {
     let tree = tree_voltages(frame, area, rows, unknowns);
     voltages_of(frame, &tree)
@@ -164,7 +164,7 @@ pub fn branch_voltages<N: Arithmetic>(
 
 // The current of every branch, by place, from its voltage.
 pub fn branch_currents<N: Arithmetic>(frame: &Frame, area: &[N], voltages: &[N]) -> [N; 32]
-    ensures { (c : Parts N.Arithmetic.Meaning) (x : ℕ → N.Arithmetic.Meaning) → Frames c frame.now → Holds ops c (map mean area.now) → Filled ops all (voltage_of ops c x) 32 (map mean voltages.now) → Filled ops (in_use c) (current_of ops c x) 32 (map mean result) }
+    ensures { (c : Parts N.Meaning) (x : ℕ → N.Meaning) → Frames c frame.now → Holds N.ops c (map N.mean area.now) → Filled N.ops all (voltage_of N.ops c x) 32 (map N.mean voltages.now) → Filled N.ops (in_use c) (current_of N.ops c x) 32 (map N.mean result) }
 {
     let flows = flows_of(frame, area, voltages);
     currents_of(frame, &flows)

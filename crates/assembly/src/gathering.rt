@@ -13,7 +13,7 @@ use topology::{Sign, has, sign_at};
 
 // The sum with a term added at plus and subtracted at minus, where the term counts at all.
 pub(crate) fn take_if<N: Arithmetic>(counts: bool, sign: Sign, term: N, sum: N) -> N
-    ensures { mean result ≡ (if counts then taken ops (sign_of sign) (mean term) (mean sum) else mean sum) }
+    ensures { N.mean result ≡ (if counts then taken N.ops (sign_of sign) (N.mean term) (N.mean sum) else N.mean sum) }
 {
     if !counts {
         return sum;
@@ -34,7 +34,7 @@ pub(crate) fn gather<N: Arithmetic>(
     start: N,
 ) -> N
     requires { from ≤ 32 }
-    ensures { mean result ≡ gathered ops (bits members) (entry row) (λ k. slice_index_or (map mean area.now) (from + k) ops.nought) (mean start) }
+    ensures { N.mean result ≡ gathered N.ops (bits members) (entry row) (λ k. slice_index_or (map N.mean area.now) (from + k) N.ops.nought) (N.mean start) }
 {
     let mut sum = start;
     for k in 0..32 {
@@ -52,7 +52,7 @@ pub(crate) fn gather_scaled<N: Arithmetic>(
     factor: N,
     start: N,
 ) -> N
-    ensures { mean result ≡ scaled ops (bits members) (entry row) (λ k. slice_index_or (map mean area.now) k ops.nought) (mean factor) (mean start) }
+    ensures { N.mean result ≡ scaled N.ops (bits members) (entry row) (λ k. slice_index_or (map N.mean area.now) k N.ops.nought) (N.mean factor) (N.mean start) }
 {
     let mut sum = start;
     for k in 0..32 {

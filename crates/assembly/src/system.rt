@@ -17,7 +17,7 @@ use topology::has;
 
 // The matrix entry of two unknowns: the conductances in both their cuts, by the agreement of the signs.
 fn entry_of<N: Arithmetic>(frame: &Frame, area: &[N], t: u32, r: u32) -> N
-    ensures { (c : Parts N.Arithmetic.Meaning) → Frames c frame.now → Holds ops c (map mean area.now) → t ∈ c.tree → r ∈ c.tree → mean result ≡ entry_of ops c t r }
+    ensures { (c : Parts N.Meaning) → Frames c frame.now → Holds N.ops c (map N.mean area.now) → t ∈ c.tree → r ∈ c.tree → N.mean result ≡ entry_of N.ops c t r }
 {
     let row = agreement(frame.cut(t), frame.cut(r));
     gather(frame.passive, row, area, 0, N::zero())
@@ -25,14 +25,14 @@ fn entry_of<N: Arithmetic>(frame: &Frame, area: &[N], t: u32, r: u32) -> N
 
 // What the branches of an unknown's cut feed it: subtracted where they leave it.
 fn feeds_of<N: Arithmetic>(frame: &Frame, area: &[N], t: u32) -> N
-    ensures { (c : Parts N.Arithmetic.Meaning) → Frames c frame.now → Holds ops c (map mean area.now) → t ∈ c.tree → mean result ≡ fed ops c t }
+    ensures { (c : Parts N.Meaning) → Frames c frame.now → Holds N.ops c (map N.mean area.now) → t ∈ c.tree → N.mean result ≡ fed N.ops c t }
 {
     gather(frame.feeding, turn_row(frame.cut(t)), area, 32, N::zero())
 }
 
 // The voltage of a voltage source; zero where there is no such row.
 pub(crate) fn level<N: Arithmetic>(rows: &[Row<N>], v: u32) -> N
-    ensures { mean result ≡ levels_of ops mean rows.now v }
+    ensures { N.mean result ≡ levels_of N.ops N.mean rows.now v }
 {
     let v = v as usize;
     if v < rows.len() {
@@ -45,7 +45,7 @@ pub(crate) fn level<N: Arithmetic>(rows: &[Row<N>], v: u32) -> N
 // A right side once the voltage source v has been taken to it, where v is one.
 fn level_by<N: Arithmetic>(frame: &Frame, area: &[N], rows: &[Row<N>], t: u32, v: u32, sum: N) -> N
     requires { v < 32 }
-    ensures { (c : Parts N.Arithmetic.Meaning) → Frames c frame.now → Holds ops c (map mean area.now) → Levels c (levels_of ops mean rows.now) → t ∈ c.tree → mean result ≡ (if c.fixed v then levelled ops c t v (mean sum) else mean sum) }
+    ensures { (c : Parts N.Meaning) → Frames c frame.now → Holds N.ops c (map N.mean area.now) → Levels c (levels_of N.ops N.mean rows.now) → t ∈ c.tree → N.mean result ≡ (if c.fixed v then levelled N.ops c t v (N.mean sum) else N.mean sum) }
 {
     if !has(frame.fixed, v) {
         return sum;
@@ -56,7 +56,7 @@ fn level_by<N: Arithmetic>(frame: &Frame, area: &[N], rows: &[Row<N>], t: u32, v
 
 // The right side of an unknown: its feeds, then each voltage source in turn.
 fn right_of<N: Arithmetic>(frame: &Frame, area: &[N], rows: &[Row<N>], t: u32) -> N
-    ensures { (c : Parts N.Arithmetic.Meaning) → Frames c frame.now → Holds ops c (map mean area.now) → Levels c (levels_of ops mean rows.now) → t ∈ c.tree → mean result ≡ right_of ops c t }
+    ensures { (c : Parts N.Meaning) → Frames c frame.now → Holds N.ops c (map N.mean area.now) → Levels c (levels_of N.ops N.mean rows.now) → t ∈ c.tree → N.mean result ≡ right_of N.ops c t }
 {
     let mut sum = feeds_of(frame, area, t);
     for v in 0..32 {
@@ -82,7 +82,7 @@ pub(crate) fn advance(word: u32, k: u32, at: u32) -> u32
 
 // The entry of the unknowns t and r, where r is one.
 fn write_entry<N: Arithmetic>(frame: &Frame, area: &mut [N], t: u32, r: u32, row: u32, column: u32)
-    ensures { (c : Parts N.Arithmetic.Meaning) → Frames c frame.now → Holds ops c (map mean area.old) → t ∈ c.tree → map mean area.new ≡ (if c.unknown r then slice_set (map mean area.old) (cell row column) (entry_of ops c t r) else map mean area.old) }
+    ensures { (c : Parts N.Meaning) → Frames c frame.now → Holds N.ops c (map N.mean area.old) → t ∈ c.tree → map N.mean area.new ≡ (if c.unknown r then slice_set (map N.mean area.old) (cell row column) (entry_of N.ops c t r) else map N.mean area.old) }
 {
     if has(frame.unknown, r) {
         let entry = entry_of(frame, area, t, r);
@@ -93,7 +93,7 @@ fn write_entry<N: Arithmetic>(frame: &Frame, area: &mut [N], t: u32, r: u32, row
 // All entries of the unknown t; answers how many unknowns there are.
 fn write_entries<N: Arithmetic>(frame: &Frame, area: &mut [N], t: u32, row: u32) -> u32
     ensures unknowns { result ≡ count (bits frame.now.unknown) 32 }
-    ensures area { (c : Parts N.Arithmetic.Meaning) → Frames c frame.now → Holds ops c (map mean area.old) → t ∈ c.tree → row ≡ count c.unknown t → map mean area.new ≡ entered ops c t (map mean area.old) }
+    ensures area { (c : Parts N.Meaning) → Frames c frame.now → Holds N.ops c (map N.mean area.old) → t ∈ c.tree → row ≡ count c.unknown t → map N.mean area.new ≡ entered N.ops c t (map N.mean area.old) }
 {
     let mut column = 0;
     for r in 0..32 {
@@ -105,7 +105,7 @@ fn write_entries<N: Arithmetic>(frame: &Frame, area: &mut [N], t: u32, row: u32)
 
 // The row of the unknown t with its right side, where t is one.
 fn write_row<N: Arithmetic>(frame: &Frame, area: &mut [N], rows: &[Row<N>], t: u32, row: u32)
-    ensures { (c : Parts N.Arithmetic.Meaning) → Frames c frame.now → Holds ops c (map mean area.old) → Levels c (levels_of ops mean rows.now) → row ≡ count c.unknown t → map mean area.new ≡ (if c.unknown t then with_row ops c t (map mean area.old) else map mean area.old) }
+    ensures { (c : Parts N.Meaning) → Frames c frame.now → Holds N.ops c (map N.mean area.old) → Levels c (levels_of N.ops N.mean rows.now) → row ≡ count c.unknown t → map N.mean area.new ≡ (if c.unknown t then with_row N.ops c t (map N.mean area.old) else map N.mean area.old) }
 {
     if has(frame.unknown, t) {
         let column = write_entries(frame, area, t, row);
@@ -117,7 +117,7 @@ fn write_row<N: Arithmetic>(frame: &Frame, area: &mut [N], rows: &[Row<N>], t: u
 // The whole system, lower unknowns first; answers how many unknowns there are.
 pub fn assemble<N: Arithmetic>(frame: &Frame, area: &mut [N], rows: &[Row<N>]) -> u32
     ensures unknowns { result ≡ count (bits frame.now.unknown) 32 }
-    ensures system { (c : Parts N.Arithmetic.Meaning) → Frames c frame.now → Holds ops c (map mean area.old) → Levels c (levels_of ops mean rows.now) → map mean area.new ≡ system_of ops c (map mean area.old) }
+    ensures system { (c : Parts N.Meaning) → Frames c frame.now → Holds N.ops c (map N.mean area.old) → Levels c (levels_of N.ops N.mean rows.now) → map N.mean area.new ≡ system_of N.ops c (map N.mean area.old) }
 {
     let mut row = 0;
     for t in 0..32 {

@@ -1,4 +1,6 @@
 // Tests of the card reader.
+#![tactic(auto)]
+
 mod answer;
 #[cfg(test)]
 mod faults;

@@ -27,8 +27,8 @@ fn has_start(kind: Kind) -> bool
 // The start that the field after the value gives; zero where the kind has none or none is written.
 fn start<N: Arithmetic>(kind: Kind, field: Field, zero: N) -> Result<N, Wrong>
     requires place { field.place ≤ 2 ^ 63 }
-    requires zero { N.Arithmetic.mean zero ≡ N.Arithmetic.ops.nought }
-    ensures { checked_by N.Arithmetic.mean result ≡ start_of N.Arithmetic.ops kind (seen field.entry) }
+    requires zero { N.mean zero ≡ N.ops.nought }
+    ensures { checked_by N.mean result ≡ start_of N.ops kind (seen field.entry) }
 {
     if !has_start(kind) {
         return Ok(zero);
@@ -68,8 +68,8 @@ fn card<'a, N: Arithmetic>(
 ) -> Result<Placement<N>, Wrong>
     requires place { number.place ≤ 2 ^ 63 }
     requires near { Near (seen_cut fields) }
-    requires zero { N.Arithmetic.mean zero ≡ N.Arithmetic.ops.nought }
-    ensures { checked_by (meant_placement N.Arithmetic.mean) result ≡ card_of N.Arithmetic.ops kind (seen number.entry) (seen_cut fields.entry) }
+    requires zero { N.mean zero ≡ N.ops.nought }
+    ensures { checked_by (meant_placement N.mean) result ≡ card_of N.ops kind (seen number.entry) (seen_cut fields.entry) }
 {
     let tail = fields.tail;
     let head = fields.head;
@@ -92,8 +92,8 @@ fn card<'a, N: Arithmetic>(
 
 // Letter first, number after. A line without fields, or whose first field begins with a star, is skipped.
 pub(crate) fn read_line<N: Arithmetic>(line: &[u8], zero: N) -> Result<Option<Placement<N>>, Wrong>
-    requires { N.Arithmetic.mean zero ≡ N.Arithmetic.ops.nought }
-    ensures { checked_by (meant_card N.Arithmetic.mean) result ≡ line_of N.Arithmetic.ops line.now }
+    requires { N.mean zero ≡ N.ops.nought }
+    ensures { checked_by (meant_card N.mean) result ≡ line_of N.ops line.now }
 {
     let fields = cut(line);
     match fields.first.text {

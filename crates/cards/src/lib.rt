@@ -1,4 +1,6 @@
 // The card reader: a text of cards is placed on a blank sheet, or the first fault is named.
+#![tactic(auto)]
+
 mod calls;
 mod card;
 mod digits;

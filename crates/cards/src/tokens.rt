@@ -69,7 +69,7 @@ pub(crate) fn count(kind: Kind, token: Token) -> Result<u32, Wrong>
 // A value or a start. Refused by 22 and 23.
 pub(crate) fn measure<N: Arithmetic>(kind: Kind, token: Token) -> Result<N, Wrong>
     requires { (word_of token).place ≤ 2 ^ 63 }
-    ensures { checked_by N.Arithmetic.mean result ≡ then (wanted 22 (byte_of (word_of token.entry)) (figured kind token.entry)) (measured N.Arithmetic.ops (byte_of (word_of token.entry))) }
+    ensures { checked_by N.mean result ≡ then (wanted 22 (byte_of (word_of token.entry)) (figured kind token.entry)) (measured N.ops (byte_of (word_of token.entry))) }
 {
     let n = numeral(kind, token)?;
     value_of(n, byte(token))

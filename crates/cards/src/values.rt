@@ -16,7 +16,7 @@ fn below_zero(n: Numeral) -> bool
 
 // The quotient that a numeral means. Refused by 23, at that byte.
 pub(crate) fn value_of<N: Arithmetic>(n: Numeral, byte: usize) -> Result<N, Wrong>
-    ensures { checked_by N.Arithmetic.mean result ≡ measured N.Arithmetic.ops byte n }
+    ensures { checked_by N.mean result ≡ measured N.ops byte n }
 {
     let under = N::whole(n.under);
     if !may_divide(under) {

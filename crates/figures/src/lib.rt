@@ -1,4 +1,6 @@
 // Readings and traces of voltages in binary64.
+#![tactic(auto)]
+
 mod readings;
 mod takings;
 mod trace;

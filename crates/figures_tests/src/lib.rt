@@ -1,4 +1,6 @@
 // Slips, readings and traces, run at the edges of their rules. The expected numbers are worked out by hand.
+#![tactic(auto)]
+
 use sheet::{Placement, Plan, Refusal, Row};
 use slips::{SlipRow, SlipWriter, write_slip};
 

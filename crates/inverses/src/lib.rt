@@ -1,5 +1,7 @@
 // The inverses modulo 8,191 as a constant table, and their rule, proved by one computed test over all entries.
 // The definitions are in specs/Inverse.antt.
+#![tactic(auto)]
+
 ghost use Rattle.std.specs.Prelude.{◌%◌};
 ghost use Rattle.inverses.specs.Inverse.{IsInverse};
 

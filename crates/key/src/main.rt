@@ -1,4 +1,6 @@
 // Reads a card file from standard input and prints its key.
+#![tactic(auto)]
+
 use printed_key::{LONGEST, printed_key};
 use std::io::Read;
 

@@ -1,4 +1,6 @@
 // The slip of a plan: its tree, and the loop row of every link.
+#![tactic(auto)]
+
 ghost use Rattle.std.specs.Prelude.{◌≡◌, ℕ, ◌+◌, ◌<◌, ◌≤◌, ◌++◌, length, take};
 ghost use Rattle.sheet.specs.Refusals.{told, granted};
 ghost use Rattle.topology.specs.Trees.{tree_of, loop_of};

@@ -1,5 +1,7 @@
 // The printed key of a card file, as text: the tree, loops and cuts of its circuit, or the refusal that stands in their
 // way. What the cards and the tree are is promised by the crates cards and topology; how they are printed is tested.
+#![tactic(auto)]
+
 ghost use Rattle.std.specs.Prelude.{◌≡◌, ◌<◌, length, IfOk, string_bytes, codes};
 
 mod lines;

@@ -1,4 +1,6 @@
 // Card files with the text that is to be printed, worked out by hand and by another program.
+#![tactic(auto)]
+
 use printed_key::printed_key;
 use std::alloc::{AllocError, Global};
 

@@ -1,5 +1,7 @@
 // Reads a stream of card files and stories from standard input, replays it and prints one line: the counts, or the first
 // difference.
+#![tactic(auto)]
+
 use replaying::replay;
 use std::io::Read;
 

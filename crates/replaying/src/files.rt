@@ -2,8 +2,8 @@
 use crate::stop::{Stop, Text, expect, readable};
 use crate::stream::Stream;
 use crate::words::Words;
-use whole_key::printed_key;
 use std::alloc::Global;
+use whole_key::printed_key;
 
 // The length in a line of a name and a length.
 fn length_of(line: &[u8], name: &[u8]) -> Option<usize> {

@@ -2,8 +2,8 @@
 use crate::files::replay_file;
 use crate::progress::{Progress, Report};
 use crate::stop::{Stop, readable};
-use crate::tree_stories::replay_story;
 use crate::stream::Stream;
+use crate::tree_stories::replay_story;
 use std::alloc::Global;
 
 // One part, whose first line this is.

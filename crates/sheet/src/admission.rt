@@ -13,7 +13,7 @@ use arithmetic::{Arithmetic, may_divide};
 
 // Refusals 5 to 9 in that order, or the branch with its first row.
 pub(crate) fn admit<N: Arithmetic>(p: Placement<N>) -> Result<(Branch, Row<N>), Refusal>
-    ensures { told result ≡ admitted (valued ops mean nil) p }
+    ensures { told result ≡ admitted (valued N.ops N.mean N.nil) p }
 {
     match Kind::numbered(p.kind) {
         None => Err(Refusal::NoSuchKind),
@@ -36,7 +36,7 @@ fn either_above_15(tail: u32, head: u32) -> bool
 
 // A value is sound, and that of a resistor, an inductor or a capacitor may be divided by.
 pub(crate) fn takes_value<N: Arithmetic>(kind: Kind, value: N) -> bool
-    ensures { result ≡ takes_value (valued ops mean nil) kind value }
+    ensures { result ≡ takes_value (valued N.ops N.mean N.nil) kind value }
 {
     match kind {
         Kind::Resistor | Kind::Inductor | Kind::Capacitor => value.is_sound() & may_divide(value),
@@ -46,7 +46,7 @@ pub(crate) fn takes_value<N: Arithmetic>(kind: Kind, value: N) -> bool
 
 // A start is sound, and zero but on an inductor or a capacitor.
 fn takes_start<N: Arithmetic>(kind: Kind, start: N) -> bool
-    ensures { result ≡ takes_start (valued ops mean nil) kind start }
+    ensures { result ≡ takes_start (valued N.ops N.mean N.nil) kind start }
 {
     match kind {
         Kind::Inductor | Kind::Capacitor => start.is_sound(),
@@ -73,7 +73,7 @@ fn drawn(kind: Kind, tail: u32, head: u32) -> Branch
 
 // An inductor starts with a current, a capacitor with a voltage.
 fn first_row<N: Arithmetic>(kind: Kind, value: N, start: N) -> Row<N>
-    ensures { result ≡ first_row (valued ops mean nil) kind value start }
+    ensures { result ≡ first_row (valued N.ops N.mean N.nil) kind value start }
 {
     let zero = N::zero();
     let (current, voltage) = match kind {

@@ -13,7 +13,7 @@ use crate::row::Row;
 use arithmetic::Arithmetic;
 
 fn zero_row<N: Arithmetic>() -> Row<N>
-    ensures { result ≡ zero_row (valued ops mean nil) }
+    ensures { result ≡ zero_row (valued N.ops N.mean N.nil) }
 {
     let zero = N::zero();
     Row {
@@ -39,7 +39,7 @@ fn check_place(rows: usize, number: u32) -> Result<(), Refusal>
 
 // Every row zero.
 fn zero_rows<N: Arithmetic>(rows: &mut [Row<N>])
-    ensures { rows.new ≡ replicate (length rows.old) (zero_row (valued ops mean nil)) }
+    ensures { rows.new ≡ replicate (length rows.old) (zero_row (valued N.ops N.mean N.nil)) }
 {
     let zero = zero_row();
     for row in rows.iter_mut() {
@@ -50,8 +50,8 @@ fn zero_rows<N: Arithmetic>(rows: &mut [Row<N>])
 impl Plan {
     // Empties the plan and makes every row zero. Refused by 1.
     pub fn blank<N: Arithmetic>(&mut self, rows: &mut [Row<N>]) -> Result<(), Refusal>
-        ensures does { Does (valued ops mean nil) blank self.old rows.old (verdict result) self.new rows.new }
-        ensures story { Does (meanings ops) (meant_call mean blank) self.old (map (meant_row mean) rows.old) (verdict result) self.new (map (meant_row mean) rows.new) }
+        ensures does { Does (valued N.ops N.mean N.nil) blank self.old rows.old (verdict result) self.new rows.new }
+        ensures story { Does (meanings N.ops) (meant_call N.mean blank) self.old (map (meant_row N.mean) rows.old) (verdict result) self.new (map (meant_row N.mean) rows.new) }
     {
         if rows.len() != 32 {
             return Err(Refusal::WrongLength);
@@ -67,8 +67,8 @@ impl Plan {
         rows: &mut [Row<N>],
         placement: Placement<N>,
     ) -> Result<(), Refusal>
-        ensures does { Does (valued ops mean nil) (place placement) self.old rows.old (verdict result) self.new rows.new }
-        ensures story { Does (meanings ops) (meant_call mean (place placement)) self.old (map (meant_row mean) rows.old) (verdict result) self.new (map (meant_row mean) rows.new) }
+        ensures does { Does (valued N.ops N.mean N.nil) (place placement) self.old rows.old (verdict result) self.new rows.new }
+        ensures story { Does (meanings N.ops) (meant_call N.mean (place placement)) self.old (map (meant_row N.mean) rows.old) (verdict result) self.new (map (meant_row N.mean) rows.new) }
     {
         let number = placement.number;
         check_place(rows.len(), number)?;
@@ -83,8 +83,8 @@ impl Plan {
 
     // Empties a place and makes its row zero. Refused by 1, 2 and 4.
     pub fn lift<N: Arithmetic>(&mut self, rows: &mut [Row<N>], number: u32) -> Result<(), Refusal>
-        ensures does { Does (valued ops mean nil) (lift number) self.old rows.old (verdict result) self.new rows.new }
-        ensures story { Does (meanings ops) (meant_call mean (lift number)) self.old (map (meant_row mean) rows.old) (verdict result) self.new (map (meant_row mean) rows.new) }
+        ensures does { Does (valued N.ops N.mean N.nil) (lift number) self.old rows.old (verdict result) self.new rows.new }
+        ensures story { Does (meanings N.ops) (meant_call N.mean (lift number)) self.old (map (meant_row N.mean) rows.old) (verdict result) self.new (map (meant_row N.mean) rows.new) }
     {
         check_place(rows.len(), number)?;
         if self.at(number).is_none() {
@@ -102,8 +102,8 @@ impl Plan {
         number: u32,
         value: N,
     ) -> Result<(), Refusal>
-        ensures does { Does (valued ops mean nil) (set_value number value) self.old rows.old (verdict result) self.new rows.new }
-        ensures story { Does (meanings ops) (meant_call mean (set_value number value)) self.old (map (meant_row mean) rows.old) (verdict result) self.new (map (meant_row mean) rows.new) }
+        ensures does { Does (valued N.ops N.mean N.nil) (set_value number value) self.old rows.old (verdict result) self.new rows.new }
+        ensures story { Does (meanings N.ops) (meant_call N.mean (set_value number value)) self.old (map (meant_row N.mean) rows.old) (verdict result) self.new (map (meant_row N.mean) rows.new) }
     {
         check_place(rows.len(), number)?;
         let branch = self.at(number).ok_or(Refusal::PlaceEmpty)?;

@@ -1,5 +1,7 @@
 // A sheet: a plan of branches, and the rows that a caller lends. Each call answers, and leaves in plan and rows, what
 // one function says: `outcome` in specs/Calls.antt. `means` in specs/Refusals.antt has the refusals' numbers.
+#![tactic(auto)]
+
 mod admission;
 mod branch;
 mod calls;

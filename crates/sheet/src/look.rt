@@ -22,7 +22,7 @@ pub struct Look<N> {
 impl Plan {
     // The branch at that place with its row; none at an empty place, above 31, or with a row table of another length.
     pub fn look<N: Arithmetic>(&self, rows: &[Row<N>], number: u32) -> Option<Look<N>>
-        ensures { result ≡ seen nil self.now rows.now number }
+        ensures { result ≡ seen N.nil self.now rows.now number }
     {
         if rows.len() != 32 {
             return None;

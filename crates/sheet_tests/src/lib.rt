@@ -1,4 +1,6 @@
 // The calls on a sheet, run at the edges of their rules. The expected numbers are worked out by hand.
+#![tactic(auto)]
+
 use arithmetic::Arithmetic;
 use sheet::{Placement, Plan, Refusal, Row};
 

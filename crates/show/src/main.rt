@@ -4,6 +4,8 @@
 //
 // prints the matrices of the circuit, its slip, a column of readings for each branch after each step of length
 // TOP / BOTTOM, and the trace of one branch.
+#![tactic(auto)]
+
 mod asked;
 mod matrices;
 mod slip;

@@ -1,4 +1,6 @@
 // Slips: a tree and rows packed as bits into a lent area of bytes.
+#![tactic(auto)]
+
 mod bits;
 mod code;
 mod counters;

@@ -1,4 +1,6 @@
 // Linear systems of at most 15 unknowns over any arithmetic, solved in place.
+#![tactic(auto)]
+
 ghost use Rattle.std.specs.Prelude.{◌≡◌, ℕ, ◌<◌, ◌≤◌, true, T, map, length, is_ok, Err, slice_set};
 ghost use Rattle.linear.specs.Elimination.{cell, entry, lose_entry, lose_row, clear, swap_entry, swap_rows, pivot_row, eliminate_column, eliminate, lose_found, divide, back_row, back, solved};
 ghost use Rattle.linear.specs.Inside.{Outside};
@@ -36,14 +38,14 @@ fn place(row: usize, column: usize) -> usize
 
 fn read<N: Arithmetic>(work: &[N], row: usize, column: usize) -> N
     requires { (304 ≤ length work.now) × ((row < 15) × (column ≤ 15)) }
-    ensures { mean result ≡ entry ops (map mean work.now) row column }
+    ensures { N.mean result ≡ entry N.ops (map N.mean work.now) row column }
 {
     work[place(row, column)]
 }
 
 fn write<N: Arithmetic>(work: &mut [N], row: usize, column: usize, value: N)
     requires { (304 ≤ length work.old) × ((row < 15) × (column ≤ 15)) }
-    ensures { map mean work.new ≡ slice_set (map mean work.old) (cell row column) (mean value) }
+    ensures { map N.mean work.new ≡ slice_set (map N.mean work.old) (cell row column) (N.mean value) }
 {
     work[place(row, column)] = value;
 }
@@ -51,7 +53,7 @@ fn write<N: Arithmetic>(work: &mut [N], row: usize, column: usize, value: N)
 // The lower row's entry in a column loses factor × the upper row's.
 fn lose_entry<N: Arithmetic>(work: &mut [N], upper: usize, lower: usize, factor: N, column: usize)
     requires { (304 ≤ length work.old) × ((upper < 15) × ((lower < 15) × (column ≤ 15))) }
-    ensures { map mean work.new ≡ lose_entry ops upper lower (mean factor) column (map mean work.old) }
+    ensures { map N.mean work.new ≡ lose_entry N.ops upper lower (N.mean factor) column (map N.mean work.old) }
 {
     let lost = factor.product(read(work, upper, column));
     let rest = read(work, lower, column).difference(lost);
@@ -61,7 +63,7 @@ fn lose_entry<N: Arithmetic>(work: &mut [N], upper: usize, lower: usize, factor:
 // A row loses entry / pivot × the pivot's row, from the pivot's column to the right side.
 fn lose_row<N: Arithmetic>(work: &mut [N], unknowns: usize, pivot: usize, row: usize)
     requires { (304 ≤ length work.old) × ((unknowns ≤ 15) × ((pivot < unknowns) × (row < unknowns))) }
-    ensures { map mean work.new ≡ lose_row ops unknowns pivot row (map mean work.old) }
+    ensures { map N.mean work.new ≡ lose_row N.ops unknowns pivot row (map N.mean work.old) }
 {
     let factor = read(work, row, pivot).quotient(read(work, pivot, pivot));
     for column in pivot..unknowns + 1 {
@@ -72,7 +74,7 @@ fn lose_row<N: Arithmetic>(work: &mut [N], unknowns: usize, pivot: usize, row: u
 // Every row below the pivot's loses its multiple of it, in turn.
 fn clear_below<N: Arithmetic>(work: &mut [N], unknowns: usize, pivot: usize)
     requires { (304 ≤ length work.old) × ((unknowns ≤ 15) × (pivot < unknowns)) }
-    ensures { map mean work.new ≡ clear ops unknowns pivot (map mean work.old) }
+    ensures { map N.mean work.new ≡ clear N.ops unknowns pivot (map N.mean work.old) }
 {
     for row in pivot + 1..unknowns {
         lose_row(work, unknowns, pivot, row);
@@ -82,7 +84,7 @@ fn clear_below<N: Arithmetic>(work: &mut [N], unknowns: usize, pivot: usize)
 // Two rows' entries in a column change places.
 fn swap_entry<N: Arithmetic>(work: &mut [N], upper: usize, lower: usize, column: usize)
     requires { (304 ≤ length work.old) × ((upper < 15) × ((lower < 15) × (column ≤ 15))) }
-    ensures { map mean work.new ≡ swap_entry ops upper lower column (map mean work.old) }
+    ensures { map N.mean work.new ≡ swap_entry N.ops upper lower column (map N.mean work.old) }
 {
     let above = read(work, upper, column);
     let below = read(work, lower, column);
@@ -93,7 +95,7 @@ fn swap_entry<N: Arithmetic>(work: &mut [N], upper: usize, lower: usize, column:
 // Two whole rows change places, their right sides too.
 fn swap_rows<N: Arithmetic>(work: &mut [N], unknowns: usize, upper: usize, lower: usize)
     requires { (304 ≤ length work.old) × ((unknowns ≤ 15) × ((upper < unknowns) × (lower < unknowns))) }
-    ensures { map mean work.new ≡ swap_rows ops unknowns upper lower (map mean work.old) }
+    ensures { map N.mean work.new ≡ swap_rows N.ops unknowns upper lower (map N.mean work.old) }
 {
     for column in 0..unknowns + 1 {
         swap_entry(work, upper, lower, column);
@@ -103,7 +105,7 @@ fn swap_rows<N: Arithmetic>(work: &mut [N], unknowns: usize, upper: usize, lower
 // The first row at or below a column's own whose entry may be divided by; the number of unknowns where there is none.
 fn pivot_row<N: Arithmetic>(work: &[N], unknowns: usize, column: usize) -> usize
     requires { (304 ≤ length work.now) × ((unknowns ≤ 15) × (column < unknowns)) }
-    ensures { result ≡ pivot_row ops unknowns column (map mean work.now) }
+    ensures { result ≡ pivot_row N.ops unknowns column (map N.mean work.now) }
 {
     for row in column..unknowns {
         if may_divide(read(work, row, column)) {
@@ -116,8 +118,8 @@ fn pivot_row<N: Arithmetic>(work: &[N], unknowns: usize, column: usize) -> usize
 // Swaps the pivot's row up and clears the rows below; false, with nothing changed, where the column has no pivot.
 fn eliminate_column<N: Arithmetic>(work: &mut [N], unknowns: usize, column: usize) -> bool
     requires { (304 ≤ length work.old) × ((unknowns ≤ 15) × (column < unknowns)) }
-    ensures ok { result ≡ (eliminate_column ops unknowns column (map mean work.old)).ok }
-    ensures left { map mean work.new ≡ (eliminate_column ops unknowns column (map mean work.old)).left }
+    ensures ok { result ≡ (eliminate_column N.ops unknowns column (map N.mean work.old)).ok }
+    ensures left { map N.mean work.new ≡ (eliminate_column N.ops unknowns column (map N.mean work.old)).left }
 {
     let pivot = pivot_row(work, unknowns, column);
     if pivot >= unknowns {
@@ -131,8 +133,8 @@ fn eliminate_column<N: Arithmetic>(work: &mut [N], unknowns: usize, column: usiz
 // The columns in turn; false, as soon as one has no pivot.
 fn eliminate_all<N: Arithmetic>(work: &mut [N], unknowns: usize) -> bool
     requires { (304 ≤ length work.old) × (unknowns ≤ 15) }
-    ensures ok { result ≡ (eliminate ops unknowns (map mean work.old)).ok }
-    ensures left { map mean work.new ≡ (eliminate ops unknowns (map mean work.old)).left }
+    ensures ok { result ≡ (eliminate N.ops unknowns (map N.mean work.old)).ok }
+    ensures left { map N.mean work.new ≡ (eliminate N.ops unknowns (map N.mean work.old)).left }
 {
     for column in 0..unknowns {
         if !eliminate_column(work, unknowns, column) {
@@ -145,7 +147,7 @@ fn eliminate_all<N: Arithmetic>(work: &mut [N], unknowns: usize) -> bool
 // A row's right side loses entry × found value in a column.
 fn lose_found<N: Arithmetic>(work: &mut [N], unknowns: usize, row: usize, column: usize)
     requires { (304 ≤ length work.old) × ((unknowns ≤ 15) × ((row < unknowns) × (column < unknowns))) }
-    ensures { map mean work.new ≡ lose_found ops unknowns row column (map mean work.old) }
+    ensures { map N.mean work.new ≡ lose_found N.ops unknowns row column (map N.mean work.old) }
 {
     let lost = read(work, row, column).product(read(work, column, unknowns));
     let rest = read(work, row, unknowns).difference(lost);
@@ -155,7 +157,7 @@ fn lose_found<N: Arithmetic>(work: &mut [N], unknowns: usize, row: usize, column
 // A row's right side is divided by the pivot: the found value stands in its place.
 fn divide_row<N: Arithmetic>(work: &mut [N], unknowns: usize, row: usize)
     requires { (304 ≤ length work.old) × ((unknowns ≤ 15) × (row < unknowns)) }
-    ensures { map mean work.new ≡ divide ops unknowns row (map mean work.old) }
+    ensures { map N.mean work.new ≡ divide N.ops unknowns row (map N.mean work.old) }
 {
     let right = read(work, row, unknowns);
     let found = right.quotient(read(work, row, row));
@@ -165,7 +167,7 @@ fn divide_row<N: Arithmetic>(work: &mut [N], unknowns: usize, row: usize)
 // Finds a row's unknown from those of the rows below, columns ascending.
 fn back_row<N: Arithmetic>(work: &mut [N], unknowns: usize, row: usize)
     requires { (304 ≤ length work.old) × ((unknowns ≤ 15) × (row < unknowns)) }
-    ensures { map mean work.new ≡ back_row ops unknowns row (map mean work.old) }
+    ensures { map N.mean work.new ≡ back_row N.ops unknowns row (map N.mean work.old) }
 {
     for column in row + 1..unknowns {
         lose_found(work, unknowns, row, column);
@@ -176,7 +178,7 @@ fn back_row<N: Arithmetic>(work: &mut [N], unknowns: usize, row: usize)
 // Back substitution, from the last row up.
 fn back_all<N: Arithmetic>(work: &mut [N], unknowns: usize)
     requires { (304 ≤ length work.old) × (unknowns ≤ 15) }
-    ensures { map mean work.new ≡ back ops unknowns (map mean work.old) }
+    ensures { map N.mean work.new ≡ back N.ops unknowns (map N.mean work.old) }
 {
     for row in (0..unknowns).rev() {
         back_row(work, unknowns, row);
@@ -186,8 +188,8 @@ fn back_all<N: Arithmetic>(work: &mut [N], unknowns: usize)
 // Elimination and back substitution; false, and no back substitution, where a column has no pivot.
 fn attempt<N: Arithmetic>(work: &mut [N], unknowns: usize) -> bool
     requires { (304 ≤ length work.old) × (unknowns ≤ 15) }
-    ensures ok { result ≡ (solved ops unknowns (map mean work.old)).ok }
-    ensures left { map mean work.new ≡ (solved ops unknowns (map mean work.old)).left }
+    ensures ok { result ≡ (solved N.ops unknowns (map N.mean work.old)).ok }
+    ensures left { map N.mean work.new ≡ (solved N.ops unknowns (map N.mean work.old)).left }
 {
     if !eliminate_all(work, unknowns) {
         return false;
@@ -204,14 +206,14 @@ fn has_room(unknowns: usize, places: usize) -> bool
 
 // Solves the system of so many unknowns in place: each found value stands where its row's right side stood.
 pub fn solve<N: Arithmetic>(work: &mut [N], unknowns: usize) -> Result<(), Unsolved>
-    ensures answer { result ≡ answer ops unknowns (map mean work.old) }
-    ensures left { map mean work.new ≡ leaves ops unknowns (map mean work.old) }
+    ensures answer { result ≡ answer N.ops unknowns (map N.mean work.old) }
+    ensures left { map N.mean work.new ≡ leaves N.ops unknowns (map N.mean work.old) }
     ensures alone { result ≡ Err Unsolved.NoRoom → work.new ≡ work.old }
-    ensures around { (k : ℕ) → Outside unknowns k → member ops (map mean work.new) k ≡ member ops (map mean work.old) k }
-    ensures solves { T exact → is_ok result ≡ true → Solution ops unknowns (map mean work.old) (found ops unknowns (map mean work.new)) }
-    ensures regular { T exact → is_ok result ≡ true → TrivialKernel ops unknowns (map mean work.old) }
-    ensures granted { T exact → fits unknowns (length work.old) ≡ true → TrivialKernel ops unknowns (map mean work.old) → is_ok result ≡ true }
-    ensures singular { T exact → result ≡ Err Unsolved.NoPivot → Singular ops unknowns (map mean work.old) }
+    ensures around { (k : ℕ) → Outside unknowns k → member N.ops (map N.mean work.new) k ≡ member N.ops (map N.mean work.old) k }
+    ensures solves { T N.exact → is_ok result ≡ true → Solution N.ops unknowns (map N.mean work.old) (found N.ops unknowns (map N.mean work.new)) }
+    ensures regular { T N.exact → is_ok result ≡ true → TrivialKernel N.ops unknowns (map N.mean work.old) }
+    ensures granted { T N.exact → fits unknowns (length work.old) ≡ true → TrivialKernel N.ops unknowns (map N.mean work.old) → is_ok result ≡ true }
+    ensures singular { T N.exact → result ≡ Err Unsolved.NoPivot → Singular N.ops unknowns (map N.mean work.old) }
 {
     if !has_room(unknowns, work.len()) {
         return Err(Unsolved::NoRoom);

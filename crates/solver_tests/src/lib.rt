@@ -1,4 +1,6 @@
 // Worked systems in both arithmetics. A system's row r begins at place 64 + 16 × r, its right side after its entries.
+#![tactic(auto)]
+
 #[cfg(test)]
 mod tests {
     use solver::{Unsolved, solve};

@@ -1,14 +1,16 @@
 // The key engine behind a C interface, for a marking station: numbers and byte slices alone. covshurii.h declares the
 // functions for C; specs/Station.antt says what they answer and leave.
+#![tactic(auto)]
+
 ghost use Rattle.std.specs.Prelude.{◌≡◌, length};
 ghost use Rattle.station.specs.Station.{in_front, Keyed, tree_mark, mark_of};
 ghost use Rattle.topology.specs.Trees.{tree_of};
 
 use cards::read_cards;
-use whole_key::{LONGEST, fresh_rows, printed_key};
 use sheet::{Plan, Refusal};
 use std::alloc::Global;
 use topology::tree;
+use whole_key::{LONGEST, fresh_rows, printed_key};
 
 // What is answered for want of memory.
 const NO_MEMORY: usize = usize::MAX;

@@ -5,7 +5,7 @@ use arithmetic::Arithmetic;
 
 // Zero at every place.
 pub(crate) fn clear<N: Arithmetic>(area: &mut [N])
-    ensures { area.new ≡ replicate (length area.old) nil }
+    ensures { area.new ≡ replicate (length area.old) N.nil }
 {
     let zero = N::zero();
     for place in area.iter_mut() {

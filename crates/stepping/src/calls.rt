@@ -31,7 +31,7 @@ fn solve_system<N: Arithmetic>(
     area: &mut [N],
 ) -> Option<u32>
     requires { (length area.old ≡ 304) × ((length rows.now ≡ 32) × ((tree_of plan.now ≡ granted frame.now.tree) × (FrameOf plan.now frame.now.tree frame.now))) }
-    ensures { Worked ops (mean h) (record { plan = plan.entry.now; rows = map (meant_row mean) rows.now }) result (map mean area.new) }
+    ensures { Worked N.ops (N.mean h) (record { plan = plan.entry.now; rows = map (meant_row N.mean) rows.now }) result (map N.mean area.new) }
 {
     clear(area);
     store_companions(plan, rows, h, area);
@@ -45,7 +45,7 @@ fn solve_system<N: Arithmetic>(
 // The branch k is placed and its current or its voltage is unsound.
 fn is_unsound<N: Arithmetic>(plan: &Plan, currents: &[N], voltages: &[N], k: u32) -> bool
     requires { k < 32 }
-    ensures { result ≡ unsound_at ops plan.now (map mean currents.now) (map mean voltages.now) k }
+    ensures { result ≡ unsound_at N.ops plan.now (map N.mean currents.now) (map N.mean voltages.now) k }
 {
     if !is_placed(plan, k) {
         return false;
@@ -57,7 +57,7 @@ fn is_unsound<N: Arithmetic>(plan: &Plan, currents: &[N], voltages: &[N], k: u32
 
 // Some placed branch has an unsound current or voltage.
 fn are_unsound<N: Arithmetic>(plan: &Plan, currents: &[N], voltages: &[N]) -> bool
-    ensures { result ≡ any (unsound_at ops plan.now (map mean currents.now) (map mean voltages.now)) 32 }
+    ensures { result ≡ any (unsound_at N.ops plan.now (map N.mean currents.now) (map N.mean voltages.now)) 32 }
 {
     let mut unsound = false;
     for k in 0..32 {
@@ -88,7 +88,7 @@ fn renew_row<N: Arithmetic>(
     k: u32,
 )
     requires { (k < 32) × (length rows.old ≡ 32) }
-    ensures rows { map (meant_row mean) rows.new ≡ renewed_at ops plan.now (map mean currents.now) (map mean voltages.now) k (map (meant_row mean) rows.old) }
+    ensures rows { map (meant_row N.mean) rows.new ≡ renewed_at N.ops plan.now (map N.mean currents.now) (map N.mean voltages.now) k (map (meant_row N.mean) rows.old) }
     ensures gives { map given rows.new ≡ map given rows.old }
     ensures others { Others plan.now rows.old rows.new }
 {
@@ -103,7 +103,7 @@ fn renew_row<N: Arithmetic>(
 // The rows of all placed branches with their new figures.
 fn renew_rows<N: Arithmetic>(plan: &Plan, currents: &[N], voltages: &[N], rows: &mut [Row<N>])
     requires { length rows.old ≡ 32 }
-    ensures rows { map (meant_row mean) rows.new ≡ through (renewed_at ops plan.now (map mean currents.now) (map mean voltages.now)) 32 (map (meant_row mean) rows.old) }
+    ensures rows { map (meant_row N.mean) rows.new ≡ through (renewed_at N.ops plan.now (map N.mean currents.now) (map N.mean voltages.now)) 32 (map (meant_row N.mean) rows.old) }
     ensures gives { map given rows.new ≡ map given rows.old }
     ensures others { Others plan.now rows.old rows.new }
 {
@@ -121,7 +121,7 @@ fn has_areas(rows: usize, places: usize) -> bool
 
 // A step length is sound and may be divided by.
 fn is_step_length<N: Arithmetic>(h: N) -> bool
-    ensures { result ≡ (ops.is_sound (mean h) && may_divide ops (mean h)) }
+    ensures { result ≡ (N.ops.is_sound (N.mean h) && may_divide N.ops (N.mean h)) }
 {
     h.is_sound() & may_divide(h)
 }
@@ -135,8 +135,8 @@ fn settle<N: Arithmetic>(
     area: &mut [N],
 ) -> Result<(), Refusal>
     requires { (length area.old ≡ 304) × ((length rows.old ≡ 32) × (tree_of plan.now ≡ granted tree)) }
-    ensures does { Settles ops mean (mean h) plan.now rows.old (verdict result) rows.new }
-    ensures area { area.new ≡ replicate 304 nil }
+    ensures does { Settles N.ops N.mean (N.mean h) plan.now rows.old (verdict result) rows.new }
+    ensures area { area.new ≡ replicate 304 N.nil }
 {
     let frame = Frame::of(plan, tree);
     let unknowns = match solve_system(plan, rows, &frame, h, area) {
@@ -165,10 +165,10 @@ pub fn step<N: Arithmetic>(
     h: N,
     work: &mut [N],
 ) -> Result<(), Refusal>
-    ensures does { StepDoes ops mean nil plan.now rows.old h work.old (verdict result) rows.new work.new }
-    ensures story { (cs : List (StoryCall N.Arithmetic.Meaning)) → run ops cs ≡ meant_sheet mean (record { plan = plan.entry.now; rows = rows.old }) → Continues ops exact cs (length rows.old) (length work.old) (mean h) (meant_sheet mean (record { plan = plan.entry.now; rows = rows.old })) (verdict result) (meant_sheet mean (record { plan = plan.entry.now; rows = rows.new })) }
-    ensures stories { T exact → TheoremOfStories ops }
-    ensures trees { TreesOfStories ops }
+    ensures does { StepDoes N.ops N.mean N.nil plan.now rows.old h work.old (verdict result) rows.new work.new }
+    ensures story { (cs : List (StoryCall N.Meaning)) → run N.ops cs ≡ meant_sheet N.mean (record { plan = plan.entry.now; rows = rows.old }) → Continues N.ops N.exact cs (length rows.old) (length work.old) (N.mean h) (meant_sheet N.mean (record { plan = plan.entry.now; rows = rows.old })) (verdict result) (meant_sheet N.mean (record { plan = plan.entry.now; rows = rows.new })) }
+    ensures stories { T N.exact → TheoremOfStories N.ops }
+    ensures trees { TreesOfStories N.ops }
 {
     if !has_areas(rows.len(), work.len()) {
         return Err(Refusal::WrongLength);

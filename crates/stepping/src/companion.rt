@@ -19,8 +19,8 @@ pub(crate) struct Companion<N> {
 // The rule: a resistor, an inductor and a capacitor by their rows before the step and its length h. A current
 // source feeds its value; a voltage source has no companion.
 fn backward_euler<N: Arithmetic>(kind: Kind, row: Row<N>, h: N) -> Companion<N>
-    ensures conductance { mean result.conductance ≡ conductance ops (mean h) (Some kind) (meant_row mean row) }
-    ensures feed { mean result.feed ≡ feed ops (mean h) (Some kind) (meant_row mean row) }
+    ensures conductance { N.mean result.conductance ≡ conductance N.ops (N.mean h) (Some kind) (meant_row N.mean row) }
+    ensures feed { N.mean result.feed ≡ feed N.ops (N.mean h) (Some kind) (meant_row N.mean row) }
 {
     match kind {
         Kind::Resistor => Companion {
@@ -52,7 +52,7 @@ fn backward_euler<N: Arithmetic>(kind: Kind, row: Row<N>, h: N) -> Companion<N>
 // The companion of the branch k into the area, conductance at k and feed at 32 + k; a voltage source has none.
 fn store_companion<N: Arithmetic>(plan: &Plan, rows: &[Row<N>], h: N, area: &mut [N], k: u32)
     requires { (k < 32) × (length rows.now ≡ 32) }
-    ensures { map mean area.new ≡ companion_turn ops plan.now (mean h) (row_at ops (map (meant_row mean) rows.now)) k (map mean area.old) }
+    ensures { map N.mean area.new ≡ companion_turn N.ops plan.now (N.mean h) (row_at N.ops (map (meant_row N.mean) rows.now)) k (map N.mean area.old) }
 {
     match plan.at(k) {
         Some(branch) => store(branch.kind, rows[k as usize], h, area, k as usize),
@@ -62,7 +62,7 @@ fn store_companion<N: Arithmetic>(plan: &Plan, rows: &[Row<N>], h: N, area: &mut
 
 fn store<N: Arithmetic>(kind: Kind, row: Row<N>, h: N, area: &mut [N], k: usize)
     requires { k < 32 }
-    ensures { map mean area.new ≡ (if is_feeding (Some kind) then slice_set (slice_set (map mean area.old) k (conductance ops (mean h) (Some kind) (meant_row mean row))) (32 + k) (feed ops (mean h) (Some kind) (meant_row mean row)) else map mean area.old) }
+    ensures { map N.mean area.new ≡ (if is_feeding (Some kind) then slice_set (slice_set (map N.mean area.old) k (conductance N.ops (N.mean h) (Some kind) (meant_row N.mean row))) (32 + k) (feed N.ops (N.mean h) (Some kind) (meant_row N.mean row)) else map N.mean area.old) }
 {
     match kind {
         Kind::VoltageSource => {}
@@ -77,7 +77,7 @@ fn store<N: Arithmetic>(kind: Kind, row: Row<N>, h: N, area: &mut [N], k: usize)
 // The companions of all branches.
 pub(crate) fn store_companions<N: Arithmetic>(plan: &Plan, rows: &[Row<N>], h: N, area: &mut [N])
     requires { length rows.now ≡ 32 }
-    ensures { map mean area.new ≡ through (companion_turn ops plan.now (mean h) (row_at ops (map (meant_row mean) rows.now))) 32 (map mean area.old) }
+    ensures { map N.mean area.new ≡ through (companion_turn N.ops plan.now (N.mean h) (row_at N.ops (map (meant_row N.mean) rows.now))) 32 (map N.mean area.old) }
 {
     for k in 0..32 {
         store_companion(plan, rows, h, area, k);

@@ -1,5 +1,7 @@
 // One time step, run on small circuits. The expected figures are worked out by another program, reference/engine.py,
 // and are compared bit for bit in binary64 and by remainder modulo 8,191.
+#![tactic(auto)]
+
 use arithmetic::Arithmetic;
 use sheet::{Kind, Placement, Plan, Refusal, Row};
 use std::num::f64_to_bits_with_nan;

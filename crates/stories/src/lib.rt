@@ -1,4 +1,6 @@
 // The theory of one time step of a circuit and of stories of calls: definitions in specs/, theorems in proofs/.
+#![tactic(auto)]
+
 ghost use Rattle.std.specs.Prelude.{T};
 ghost use Rattle.stories.specs.Theorem.{BestTrees, TreesOfStories, TheoremOfStories};
 
@@ -15,7 +17,7 @@ pub fn best_trees() -> u8
 // In every arithmetic, after every story: a step meets neither 12 nor 13 exactly if some tree has every voltage source
 // and no current source; the tree that is kept is then the best of these.
 pub fn trees_of_stories<N: Arithmetic>() -> u8
-    ensures { TreesOfStories N.Arithmetic.ops }
+    ensures { TreesOfStories N.ops }
 {
     0
 }
@@ -23,7 +25,7 @@ pub fn trees_of_stories<N: Arithmetic>() -> u8
 // In an exact arithmetic, after every story: a step is granted exactly if only the zero list is dead, and its rows are
 // then the one live list; the trees; and the sums of charge and flux.
 pub fn theorem_of_stories<N: Arithmetic>() -> u8
-    ensures { T N.Arithmetic.exact → TheoremOfStories N.Arithmetic.ops }
+    ensures { T N.exact → TheoremOfStories N.ops }
 {
     0
 }

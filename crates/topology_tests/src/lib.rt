@@ -1,4 +1,6 @@
 // Trees, loops, cuts and incidence of small plans. The expected words are worked out by hand.
+#![tactic(auto)]
+
 use sheet::{Kind, Placement, Plan, Refusal, Row};
 
 #[cfg(test)]

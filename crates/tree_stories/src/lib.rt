@@ -1,4 +1,6 @@
 // The theory of one time step of a circuit and of stories of calls: definitions in specs/, theorems in proofs/.
+#![tactic(auto)]
+
 ghost use Rattle.std.specs.Prelude.{T};
 ghost use Rattle.tree_stories.specs.Theorem.{TreesOfStories, TheoremOfStories};
 
@@ -7,7 +9,7 @@ use arithmetic::Arithmetic;
 // In every arithmetic, after every story: a step meets neither 12 nor 13 exactly if some tree has every voltage source
 // and no current source; the tree that the tree's call then grants is the best of these.
 pub fn trees_of_stories<N: Arithmetic>() -> u8
-    ensures { TreesOfStories N.Arithmetic.ops }
+    ensures { TreesOfStories N.ops }
 {
     0
 }
@@ -15,7 +17,7 @@ pub fn trees_of_stories<N: Arithmetic>() -> u8
 // In an exact arithmetic, after every story: a step is granted exactly if only the zero list is dead, and its rows are
 // then the one live list; the trees; and the sums of charge and flux.
 pub fn theorem_of_stories<N: Arithmetic>() -> u8
-    ensures { T N.Arithmetic.exact → TheoremOfStories N.Arithmetic.ops }
+    ensures { T N.exact → TheoremOfStories N.ops }
 {
     0
 }

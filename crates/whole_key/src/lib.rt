@@ -1,5 +1,7 @@
 // The printed key of a card file, as text: the tree, loops and cuts of its circuit, the readings and the remainders after
 // one time step, or the refusals that stand in their place.
+#![tactic(auto)]
+
 ghost use Rattle.std.specs.Prelude.{◌≡◌, length, IfOk, string_bytes};
 ghost use Rattle.whole_key.specs.Key.{circuit_lines, key_lines, key_text};
 ghost use Rattle.whole_key.specs.Text.{Adds, text_of};

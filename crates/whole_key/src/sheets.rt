@@ -8,7 +8,7 @@ use sheet::Row;
 
 // Thirty-two rows of zeros.
 pub fn fresh_rows<N: Arithmetic>() -> [Row<N>; 32]
-    ensures { map (meant_row mean) result ≡ replicate 32 (zero_row (meanings ops)) }
+    ensures { map (meant_row N.mean) result ≡ replicate 32 (zero_row (meanings N.ops)) }
 {
     let zero = N::zero();
     let row = Row {

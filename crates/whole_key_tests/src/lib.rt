@@ -1,6 +1,8 @@
 // Card files with the text that is to be printed, worked out by hand and by another program.
-use whole_key::printed_key;
+#![tactic(auto)]
+
 use std::alloc::{AllocError, Global};
+use whole_key::printed_key;
 
 #[cfg(test)]
 mod tests;
