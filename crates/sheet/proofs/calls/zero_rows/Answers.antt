@@ -10,8 +10,8 @@ loop-row-preserved g c =
 
 pub returns : goal.returns
 returns g c =
-    let z = c.zero-row-zero.result in
+    let z = c.zero_row-zero.result in
     let n = length c.args.rows.now in
     ext_get_or z c.loop-row.rows (replicate n z) (c.loop-row.auto.rows ∙ sym (length-replicate n z))
     (λ i h. let lt : i < n = omega (arith, c.loop-row.auto.rows) in c.loop-row.invariant i (omega arith) ∙ sym (get_or-replicate n i z z lt))
-    ∙ ap (replicate n) c.zero-row-zero.ensures
+    ∙ ap (replicate n) c.zero_row-zero.ensures

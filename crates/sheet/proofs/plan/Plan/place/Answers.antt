@@ -4,21 +4,21 @@ use Rattle.sheet.proofs.Meanings.{both_ways}
 use Rattle.sheet.proofs.Outcomes.{place_early, place_passes}
 use Rattle.sheet.proofs.plan.Plan.place.Goals as goal
 
-pub returns-in-err-check-place : goal.returns-in-err-check-place
-returns-in-err-check-place g c =
-    let p = err_from_is_err_and c.from-residual.result c.from-residual.ensures.1 in
+pub returns-in_err-check_place : goal.returns-in_err-check_place
+returns-in_err-check_place g c =
+    let p = err_from_is_err_and c.from_residual.result c.from_residual.ensures.1 in
     rw (p.1, p.2)
     (both_ways g.N.Arithmetic.ops g.N.Arithmetic.mean g.N.Arithmetic.nil g.met.N.Arithmetic.nought
-    (place_early _ c.args.placement c.args.self.now c.args.rows.now _ c.in-err-check-place.ensures))
+    (place_early _ c.args.placement c.args.self.now c.args.rows.now _ c.in_err-check_place.ensures))
 
-pub returns-then-is-some : goal.returns-then-is-some
-returns-then-is-some g c = both_ways g.N.Arithmetic.ops g.N.Arithmetic.mean g.N.Arithmetic.nil g.met.N.Arithmetic.nought (search rules)
+pub returns-then-is_some : goal.returns-then-is_some
+returns-then-is_some g c = both_ways g.N.Arithmetic.ops g.N.Arithmetic.mean g.N.Arithmetic.nil g.met.N.Arithmetic.nought (search rules)
 
-pub returns-in-err-branch : goal.returns-in-err-branch
-returns-in-err-branch g c = both_ways g.N.Arithmetic.ops g.N.Arithmetic.mean g.N.Arithmetic.nil g.met.N.Arithmetic.nought (search rules)
+pub returns-in_err-branch : goal.returns-in_err-branch
+returns-in_err-branch g c = both_ways g.N.Arithmetic.ops g.N.Arithmetic.mean g.N.Arithmetic.nil g.met.N.Arithmetic.nought (search rules)
 
 pub returns : goal.returns
 returns g c =
-    simp (c.put.ensures, c.put-row.ensures)
+    simp (c.put.ensures, c.put_row.ensures)
     (both_ways g.N.Arithmetic.ops g.N.Arithmetic.mean g.N.Arithmetic.nil g.met.N.Arithmetic.nought
-    (place_passes _ c.args.placement c.args.self.now c.args.rows.now c.in-ok-branch.branch c.in-ok-branch.row c.in-ok-check-place.ensures (cc) c.in-ok-branch.ensures))
+    (place_passes _ c.args.placement c.args.self.now c.args.rows.now c.in_ok-branch.branch c.in_ok-branch.row c.in_ok-check_place.ensures (cc) c.in_ok-branch.ensures))
