@@ -18,15 +18,15 @@ returns-in_err-branch g c = both_ways g.N.Arithmetic.ops g.N.Arithmetic.mean g.N
 pub returns-then-not-is_source : goal.returns-then-not-is_source
 returns-then-not-is_source g c =
     both_ways g.N.Arithmetic.ops g.N.Arithmetic.mean g.N.Arithmetic.nil g.met.N.Arithmetic.nought
-    (set_finds_no_source _ c.args.self.now c.args.rows.now c.args.number c.args.value c.in_ok-check_place.ensures c.in_ok-branch.branch (sym c.at.ensures ∙ c.in_ok-branch.ensures.ok-part) (sym c.is_source.ensures ∙ c.if-not-is_source.true))
+    (set_finds_no_source _ c.args.self.now c.args.rows.now c.args.number c.args.value c.in_ok-check_place.ensures c.in_ok-branch.branch (sym c.at.ensures ∙ c.in_ok-branch.ensures.ok_part) (sym c.is_source.ensures ∙ c.if-not-is_source.true))
 
 pub returns-then-not-takes_value : goal.returns-then-not-takes_value
 returns-then-not-takes_value g c =
     both_ways g.N.Arithmetic.ops g.N.Arithmetic.mean g.N.Arithmetic.nil g.met.N.Arithmetic.nought
-    (set_refuses _ c.args.self.now c.args.rows.now c.args.number c.args.value c.in_ok-check_place.ensures c.in_ok-branch.branch (sym c.at.ensures ∙ c.in_ok-branch.ensures.ok-part) (sym c.is_source.ensures ∙ c.if-not-is_source.false) (sym c.takes_value.ensures ∙ c.if-not-takes_value.true))
+    (set_refuses _ c.args.self.now c.args.rows.now c.args.number c.args.value c.in_ok-check_place.ensures c.in_ok-branch.branch (sym c.at.ensures ∙ c.in_ok-branch.ensures.ok_part) (sym c.is_source.ensures ∙ c.if-not-is_source.false) (sym c.takes_value.ensures ∙ c.if-not-takes_value.true))
 
 pub returns : goal.returns
 returns g c =
     simp (c.set_row_value.ensures (zero_row (valued g.N.Arithmetic.ops g.N.Arithmetic.mean g.N.Arithmetic.nil)))
     (both_ways g.N.Arithmetic.ops g.N.Arithmetic.mean g.N.Arithmetic.nil g.met.N.Arithmetic.nought
-    (set_passes _ c.args.self.now c.args.rows.now c.args.number c.args.value c.in_ok-check_place.ensures c.in_ok-branch.branch (sym c.at.ensures ∙ c.in_ok-branch.ensures.ok-part) (sym c.is_source.ensures ∙ c.if-not-is_source.false) (sym c.takes_value.ensures ∙ c.if-not-takes_value.false)))
+    (set_passes _ c.args.self.now c.args.rows.now c.args.number c.args.value c.in_ok-check_place.ensures c.in_ok-branch.branch (sym c.at.ensures ∙ c.in_ok-branch.ensures.ok_part) (sym c.is_source.ensures ∙ c.if-not-is_source.false) (sym c.takes_value.ensures ∙ c.if-not-takes_value.false)))
