@@ -11,16 +11,16 @@ use Rattle.topology.proofs.calls.cut_row.Goals as goal
 with_meaning : (p : Plan) (k : ℕ) (a : Answer (Option Shown)) → a ≡ cut_row_of p k → record { answer : a ≡ cut_row_of p k; meaning : CutAnswer p k a }
 with_meaning p k a e = record { answer = e; meaning = subst (CutAnswer p k) (sym e) (cut-answer p k) }
 
-pub returns-in-err-tree : goal.returns-in-err-tree
+pub returns-in_err-tree : goal.returns-in_err-tree
 unfolding cut_row_of
-returns-in-err-tree c =
-    let p = err_from_is_err_and c.from-residual.result c.from-residual.ensures.1 in
+returns-in_err-tree c =
+    let p = err_from_is_err_and c.from_residual.result c.from_residual.ensures.1 in
     with_meaning c.args.plan.now c.args.number _
-    (rw (p.1, p.2) (ap (λ a. after a (λ tree. granted (cut_of c.args.plan.now tree c.args.number))) c.in-err-tree.ensures.answer))
+    (rw (p.1, p.2) (ap (λ a. after a (λ tree. granted (cut_of c.args.plan.now tree c.args.number))) c.in_err-tree.ensures.answer))
 
 pub returns : goal.returns
 unfolding cut_row_of
 returns c =
     with_meaning c.args.plan.now c.args.number _
-    (ap granted c.cut-of.ensures
-    ∙ ap (λ a. after a (λ tree. granted (cut_of c.args.plan.now tree c.args.number))) c.in-ok-tree.ensures.answer)
+    (ap granted c.cut_of.ensures
+    ∙ ap (λ a. after a (λ tree. granted (cut_of c.args.plan.now tree c.args.number))) c.in_ok-tree.ensures.answer)

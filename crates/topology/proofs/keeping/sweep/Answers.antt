@@ -12,4 +12,4 @@ loop-k-init c = refl
 pub loop-k-preserved : goal.loop-k-preserved
 loop-k-preserved c =
     sweep_more (graph_of c.args.plan.now) (of_class (class_at c.args.plan.now) c.args.class (placed c.args.plan.now))
-    (bits c.args.before) (bits c.loop-k.word) (bits c.keep-one-word.result) c.loop-k.k c.loop-k.invariant c.keep-one-word.ensures
+    (bits c.args.before) (bits c.loop-k.word) (bits c.keep_one-word.result) c.loop-k.k c.loop-k.invariant c.keep_one-word.ensures

@@ -10,7 +10,7 @@ returns-then-has c =
     let p = c.args.plan.now in
     let ls = c.args.labels.now in
     subst (Labelled (graph_of p) (bits c.args.word) _)
-    (sym (c.merge-labels.ensures ∙ (λ i. map (merge (get_or ls (c.tail.ensures.is i) 0) (get_or ls (c.head.ensures.is i) 0)) ls)))
+    (sym (c.merge_labels.ensures ∙ (λ i. map (merge (get_or ls (c.tail.ensures.is i) 0) (get_or ls (c.head.ensures.is i) 0)) ls)))
     (labelled_in (graph_of p) (bits c.args.word) c.args.k ls c.requires (sym c.if-has.ensures) (tail_node p c.args.k) (head_node p c.args.k))
 
 pub returns-else-has : goal.returns-else-has

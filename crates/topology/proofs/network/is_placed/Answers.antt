@@ -14,6 +14,6 @@ pub returns : goal.returns
 unfolding placed
 returns c =
     let lt : c.args.k < 32 = omega arith in
-    c.is-some.ensures
+    c.is_some.ensures
     ∙ ap is_some c.at.ensures
     ∙ ap (λ t. t && is_some (branch_at c.args.plan.now c.args.k)) (sym (lt-ltb c.args.k 32 lt))

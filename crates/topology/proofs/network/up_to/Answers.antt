@@ -16,7 +16,7 @@ pub loop-k-init : goal.loop-k-init
 loop-k-init c = sym (under_none (wanted c.args.plan.now c.args.last))
 
 pub loop-k-preserved : goal.loop-k-preserved
-loop-k-preserved c = gathers (wanted c.args.plan.now c.args.last) c.loop-k.k c.insert-if-word.result c.loop-k.word c.is-up-to.result c.loop-k.invariant c.is-up-to.ensures c.insert-if-word.ensures
+loop-k-preserved c = gathers (wanted c.args.plan.now c.args.last) c.loop-k.k c.insert_if-word.result c.loop-k.word c.is_up_to.result c.loop-k.invariant c.is_up_to.ensures c.insert_if-word.ensures
 
 pub returns : goal.returns
 returns c =
