@@ -20,7 +20,7 @@ whole g c =
     let A = g.N.Arithmetic in
     let s = meant_sheet A.mean (record { plan = c.blank.new.self; rows = c.blank.new.rows }) in
     (λ i. lines_done A.ops (c.new-reader.ensures.counted i) (c.new-reader.ensures.left i) s)
-    ∙ blanked_text A.ops _ s c.args.input.now c.in-default.ensures.story
+    ∙ blanked_text A.ops _ s c.args.input.now c.in_default.ensures.story
 
 -- the equation with the definition gives the other promises
 all : (g : given.Over) (input : List ℕ) (plan : Plan) (rows : List (Row g.row.N.Denot)) (st : State g.N.Arithmetic.Meaning)
@@ -46,18 +46,18 @@ loop-line-init g c = record { comes = refl }
 
 pub loop-line-preserved : goal.loop-line-preserved
 loop-line-preserved g c =
-    turn_on g.N.Arithmetic.ops _ _ _ _ _ c.loop-line.invariant _ _ _ c.in-Some.ensures.left c.in-Some.ensures.number _ c.in-Some.ensures.counted c.in-ok-place-line.ensures
+    turn_on g.N.Arithmetic.ops _ _ _ _ _ c.loop-line.invariant _ _ _ c.in-Some.ensures.left c.in-Some.ensures.number _ c.in-Some.ensures.counted c.in_ok-place_line.ensures
 
-pub returns-in-err-place-line : goal.returns-in-err-place-line
-returns-in-err-place-line g c =
-    let p = err_from_is_err_and c.from-residual.result c.from-residual.ensures.1 in
+pub returns-in_err-place_line : goal.returns-in_err-place_line
+returns-in_err-place_line g c =
+    let p = err_from_is_err_and c.from_residual.result c.from_residual.ensures.1 in
     rw (p.1, p.2)
     (all g c.args.input.now c.args.plan.now c.args.rows.now _
-    (turn_stops g.N.Arithmetic.ops _ _ _ _ _ c.loop-line.invariant _ _ _ c.in-Some.ensures.left c.in-Some.ensures.number _ c.in-err-place-line.ensures
-    ∙ whole g (goal.at.returns-in-err-place-line g c).After-new-reader))
+    (turn_stops g.N.Arithmetic.ops _ _ _ _ _ c.loop-line.invariant _ _ _ c.in-Some.ensures.left c.in-Some.ensures.number _ c.in_err-place_line.ensures
+    ∙ whole g (goal.at.returns-in_err-place_line g c).After-new-reader))
 
 pub returns : goal.returns
 returns g c =
     all g c.args.input.now c.args.plan.now c.args.rows.now _
-    (turn_ends g.N.Arithmetic.ops _ _ _ (meant_sheet g.N.Arithmetic.mean (record { plan = c.loop-line.plan; rows = c.loop-line.rows })) _ c.loop-line.invariant c.in-default-next-line.ensures
+    (turn_ends g.N.Arithmetic.ops _ _ _ (meant_sheet g.N.Arithmetic.mean (record { plan = c.loop-line.plan; rows = c.loop-line.rows })) _ c.loop-line.invariant c.in_default-next_line.ensures
     ∙ whole g (goal.at.returns g c).After-new-reader)

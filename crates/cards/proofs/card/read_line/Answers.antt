@@ -19,11 +19,11 @@ found g c =
     card_line g.N.Arithmetic.ops c.in-Some.kind (seen_cut c.cut-fields.result) text _ some star c.in-Some.ensures refl
     ∙ ap (λ x. opened g.N.Arithmetic.ops x.first.text x) c.cut-fields.ensures.words
 
-pub returns-in-err-card : goal.returns-in-err-card
-returns-in-err-card g c =
-    let p = err_from_is_err_and c.from-residual.result c.from-residual.ensures.1 in
-    rw (p.1, p.2) (ap (λ x. then x (λ p. right (Some p))) c.in-err-card.ensures ∙ found g (goal.at.returns-in-err-card g c).After-card)
+pub returns-in_err-card-in-len1-up : goal.returns-in_err-card-in-len1-up
+returns-in_err-card-in-len1-up g c =
+    let p = err_from_is_err_and c.from_residual.result c.from_residual.ensures.1 in
+    rw (p.1, p.2) (ap (λ x. then x (λ p. right (Some p))) c.in_err-card-in-len1-up.ensures ∙ found g (goal.at.returns-in_err-card-in-len1-up g c).After-card)
 
-pub returns-in-ok-card : goal.returns-in-ok-card
-returns-in-ok-card g c =
-    ap (λ x. then x (λ p. right (Some p))) c.in-ok-card.ensures ∙ found g (goal.at.returns-in-ok-card g c).After-card
+pub returns-in_ok-card-in-len1-up : goal.returns-in_ok-card-in-len1-up
+returns-in_ok-card-in-len1-up g c =
+    ap (λ x. then x (λ p. right (Some p))) c.in_ok-card-in-len1-up.ensures ∙ found g (goal.at.returns-in_ok-card-in-len1-up g c).After-card

@@ -5,14 +5,14 @@ use Rattle.cards.proofs.digits.digits.Goals as goal
 pub loop-d-init : goal.loop-d-init
 loop-d-init c = record { small = omega arith; digits = refl; value = refl }
 
-pub returns-then-not-is-digit : goal.returns-then-not-is-digit
-returns-then-not-is-digit c =
-    digit_wrong c.args.text.now c.loop-d.d-index c.loop-d.n c.loop-d.invariant c.args.most (omega arith) (sym c.if-not-is-digit.ensures)
+pub returns-then-not-is_digit : goal.returns-then-not-is_digit
+returns-then-not-is_digit c =
+    digit_wrong c.args.text.now c.loop-d.d-index c.loop-d.n c.loop-d.invariant c.args.most (omega arith) (sym c.if-not-is_digit.ensures)
 
 pub loop-d-preserved : goal.loop-d-preserved
 loop-d-preserved c =
     subst (λ d. Sofar c.args.text.now (c.loop-d.d-index + 1) (c.loop-d.n * 10 + d)) (sym c.from.ensures)
-    (digit_more c.args.text.now c.loop-d.d-index c.loop-d.n c.loop-d.invariant (omega arith) (sym c.if-not-is-digit.ensures))
+    (digit_more c.args.text.now c.loop-d.d-index c.loop-d.n c.loop-d.invariant (omega arith) (sym c.if-not-is_digit.ensures))
 
 pub returns : goal.returns
 returns c =

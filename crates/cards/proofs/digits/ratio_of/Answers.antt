@@ -9,8 +9,8 @@ returns-then-end-text c =
     c.fraction.ensures ∙ ap (λ n. over n (Some 1)) c.digits.ensures
     ∙ ratio-whole c.args.text.now (sym c.until-end.ensures.reach ∙ c.if-end-text.true)
 
-pub slice-bounds-digits-end : goal.slice-bounds-digits-end
-slice-bounds-digits-end c = sym (length-take-le c.until-end.result c.args.text.now (omega (arith, c.until-end.ensures.within)))
+pub slice_bounds-digits-end : goal.slice_bounds-digits-end
+slice_bounds-digits-end c = sym (length-take-le c.until-end.result c.args.text.now (omega (arith, c.until-end.ensures.within)))
 
 pub returns : goal.returns
 returns c =

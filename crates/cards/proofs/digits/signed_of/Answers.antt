@@ -4,4 +4,4 @@ use Rattle.cards.proofs.Figures.{signed_minus}
 use Rattle.cards.proofs.digits.signed_of.Goals as goal
 
 pub returns-in-45 : goal.returns-in-45
-returns-in-45 c = c.negative.ensures ∙ ap negated c.ratio-of.ensures ∙ signed_minus c.args.text.now (search rules) (search rules)
+returns-in-45 c = c.negative.ensures ∙ ap negated c.ratio_of.ensures ∙ signed_minus c.args.text.now (search rules) (search rules)

@@ -5,16 +5,16 @@ use Rattle.cards.specs.Parts.{reach}
 use Rattle.cards.proofs.Pieces.{first_field}
 use Rattle.cards.proofs.fields.field_from.Goals as goal
 
-pub slice-bounds-result-end : goal.slice-bounds-result-end
-slice-bounds-result-end c =
-    let rest = take (length c.args.line.now - c.past-spaces-place.result) (drop c.past-spaces-place.result c.args.line.now) in
+pub slice_bounds-result-end : goal.slice_bounds-result-end
+slice_bounds-result-end c =
+    let rest = take (length c.args.line.now - c.past_spaces-place.result) (drop c.past_spaces-place.result c.args.line.now) in
     sym (length-take-le c.until.result rest c.until.ensures.within)
 
 pub returns : goal.returns
 returns c =
     let line = c.args.line.now in
-    let place = c.past-spaces-place.result in
-    let found = c.past-spaces-place.ensures in
+    let place = c.past_spaces-place.result in
+    let found = c.past_spaces-place.ensures in
     let rest = take_rest line place in
     let size : c.until.result ≡ reach 32 (drop place line) = c.until.ensures.reach ∙ ap (reach 32) rest in
     subst (λ t. First line c.args.from (record { place = place; text = t })) (sym (λ i. take (size i) (rest i)))
