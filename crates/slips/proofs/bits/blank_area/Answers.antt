@@ -8,7 +8,7 @@ after_blanking area area' e = subst (Past area) (sym e) (blanked_past area)
 
 pub returns-then-area-ge280 : goal.returns-then-area-ge280
 returns-then-area-ge280 c =
-    let is = c.zero-area.ensures ∙ sym (blanked_wide c.args.area.now c.if-area-ge280.true) in
+    let is = c.zero_area.ensures ∙ sym (blanked_wide c.args.area.now c.if-area-ge280.true) in
     record { area = is; past = after_blanking c.args.area.now _ is }
 
 pub returns-else-area-ge280 : goal.returns-else-area-ge280

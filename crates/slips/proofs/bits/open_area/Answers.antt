@@ -10,8 +10,8 @@ after_opening tree area area' e = subst (Past area) (sym e) (opened_past tree ar
 pub returns-then-area-ge280 : goal.returns-then-area-ge280
 returns-then-area-ge280 c =
     let area = c.args.area.now in
-    let is : c.put-tree.new.area ≡ opened c.args.tree area =
-    c.put-tree.ensures ∙ ap (λ (xs : List ℕ). put_bits xs 0 (low 32 c.args.tree)) c.zero-area.ensures
+    let is : c.put_tree.new.area ≡ opened c.args.tree area =
+    c.put_tree.ensures ∙ ap (λ (xs : List ℕ). put_bits xs 0 (low 32 c.args.tree)) c.zero_area.ensures
     ∙ sym (opened_wide c.args.tree area c.if-area-ge280.true)
     in
     record { area = is; past = after_opening c.args.tree area _ is }

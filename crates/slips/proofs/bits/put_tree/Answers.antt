@@ -7,8 +7,8 @@ pub loop-place-preserved : goal.loop-place-preserved
 loop-place-preserved c =
     let p = c.loop-place.place in
     let e : 32 - (p + 1) ≡ 32 - p - 1 = omega arith in
-    ap (λ (n : ℕ). put_bits c.put-bit.new.area (p + 1) (low n (c.loop-place.rest / 2))) e
-    ∙ ap (λ (a : List ℕ). put_bits a (p + 1) (low (32 - p - 1) (c.loop-place.rest / 2))) c.put-bit.ensures
+    ap (λ (n : ℕ). put_bits c.put_bit.new.area (p + 1) (low n (c.loop-place.rest / 2))) e
+    ∙ ap (λ (a : List ℕ). put_bits a (p + 1) (low (32 - p - 1) (c.loop-place.rest / 2))) c.put_bit.ensures
     ∙ tree_turn c.loop-place.area p (32 - p) c.loop-place.rest (omega arith)
     ∙ c.loop-place.invariant
 

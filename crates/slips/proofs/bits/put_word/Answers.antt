@@ -8,7 +8,7 @@ loop-left-preserved c = (
   omega arith,
   omega arith,
   ap (λ (a : List ℕ). put_bits a (c.loop-left.place + 1) (high (c.loop-left.left - 1) c.args.word))
-      (c.put-bit.ensures ∙ ap (put_bit c.loop-left.area c.loop-left.place) (last_bit _))
+      (c.put_bit.ensures ∙ ap (put_bit c.loop-left.area c.loop-left.place) (last_bit _))
       ∙ word-turn c.loop-left.area c.loop-left.place c.loop-left.left c.args.word (omega arith)
       ∙ c.loop-left.invariant.2,
 )

@@ -9,11 +9,11 @@ pub loop-place-preserved : goal.loop-place-preserved
 loop-place-preserved c =
     let es = c.loop-place.entries in
     let i = c.loop-place.place in
-    let z : to_z w8 (of_z w8 c.entry-at.result) ≡ c.entry-at.result = search rules in (
+    let z : to_z w8 (of_z w8 c.entry_at.result) ≡ c.entry_at.result = search rules in (
       length-set es i _ ∙ c.loop-place.invariant.0,
       below_more _ _
           (λ k h. let ne : k ≢ i = omega arith in get_or-set_other es i k _ (pos 0) ne ∙ c.loop-place.invariant.1 k h)
-          (let lt : i < length es = omega arith in get_or-set_same es i _ (pos 0) lt ∙ z ∙ c.entry-at.ensures),
+          (let lt : i < length es = omega arith in get_or-set_same es i _ (pos 0) lt ∙ z ∙ c.entry_at.ensures),
     )
 
 pub returns : goal.returns

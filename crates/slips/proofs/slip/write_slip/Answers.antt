@@ -18,7 +18,7 @@ loop-row-init c =
 
 pub loop-row-preserved : goal.loop-row-preserved
 loop-row-preserved c =
-    let e = c.in-ok-row.ensures in
+    let e = c.in_ok-row.ensures in
     let w = c.loop-row.writer in
     let r = get_or c.args.rows.now c.loop-row.row-index none in (
       e.lender ∙ c.loop-row.invariant.0,
@@ -27,19 +27,19 @@ loop-row-preserved c =
           r.number r.entries none c.loop-row-test.true refl c.loop-row.invariant.2 _ _ _ e.does e.lengths e.past e.holds,
     )
 
-pub returns-in-err-row : goal.returns-in-err-row
-returns-in-err-row c =
+pub returns-in_err-row : goal.returns-in_err-row
+returns-in_err-row c =
     let tree = c.args.tree in
     let rows = c.args.rows.now in
     let area = c.args.area.now in
     let i = c.loop-row.row-index in
     let w = c.loop-row.writer in
     let r = get_or rows i none in
-    let e = c.in-err-row.ensures in
-    let x = c.in-err-row.field-0.0 in
+    let e = c.in_err-row.ensures in
+    let x = c.in_err-row.field-0.0 in
     let written = subst (λ (xs : List ℕ). Written tree rows i xs w.area.now w.counters.at w.counters.next) c.open-writer.ensures.area c.loop-row.invariant.2 in
-    let p = err_from_is_err_and c.from-residual.result c.from-residual.ensures.1 in
-    let result_is : c.from-residual.result ≡ Err x = p.1 ∙ ap Err p.2 in
+    let p = err_from_is_err_and c.from_residual.result c.from_residual.ensures.1 in
+    let result_is : c.from_residual.result ≡ Err x = p.1 ∙ ap Err p.2 in
     let q = row_refused tree rows i (opened tree area) w.area.now w.counters.at w.counters.next r.number r.entries none c.loop-row-test.true refl written
     (means x) c.row.new.self.area.now c.row.new.self.counters.at c.row.new.self.counters.next e.does in
     let last = c.row.new.self.area.now in
@@ -50,7 +50,7 @@ returns-in-err-row c =
     in
     record {
       answers = ap told result_is ∙ refused_slip tree rows i area w.area.now w.counters.at w.counters.next written (means x) q.0;
-      slip = ended_slip (record { tree = tree; rows = rows }) area c.from-residual.result x result_is (search rules ∙ blank);
+      slip = ended_slip (record { tree = tree; rows = rows }) area c.from_residual.result x result_is (search rules ∙ blank);
       apart = told_apart;
       past = ended_past area (search rules ∙ blank);
     }
@@ -67,7 +67,7 @@ returns c =
     let fine : i ≤ length rows = omega arith in
     record {
       answers = c.seal.ensures.answers ∙ sealed_answer tree rows i area w.area.now w.counters.at w.counters.next written all fine;
-      slip = sealed_slip tree rows i area w.area.now w.counters.at w.counters.next written all fine c.seal.result c.seal.ensures.answers (search rules) c.seal.ensures.area c.seal.ensures.reads-back;
+      slip = sealed_slip tree rows i area w.area.now w.counters.at w.counters.next written all fine c.seal.result c.seal.ensures.answers (search rules) c.seal.ensures.area c.seal.ensures.reads_back;
       apart = told_apart;
       past = sealed_past tree rows i area w.area.now w.counters.at w.counters.next written (search rules);
     }

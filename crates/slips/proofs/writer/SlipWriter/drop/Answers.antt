@@ -7,7 +7,7 @@ pub returns-then-unsealed : goal.returns-then-unsealed
 returns-then-unsealed c =
     let area = c.args.self.area.now in
     record {
-      zeros = λ _ r k h. ap (λ (xs : List ℕ). get_or xs k 0) c.blank-area.ensures.area ∙ blanked_zeros area r k h;
-      past = c.blank-area.ensures.past;
-      area = c.blank-area.ensures.area ∙ ap (λ (b : Bool). cond b area (blanked area)) (sym c.if-unsealed.true);
+      zeros = λ _ r k h. ap (λ (xs : List ℕ). get_or xs k 0) c.blank_area.ensures.area ∙ blanked_zeros area r k h;
+      past = c.blank_area.ensures.past;
+      area = c.blank_area.ensures.area ∙ ap (λ (b : Bool). cond b area (blanked area)) (sym c.if-unsealed.true);
     }

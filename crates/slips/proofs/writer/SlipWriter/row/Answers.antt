@@ -11,7 +11,7 @@ returns c =
     let next = c.args.self.now.counters.next in
     let number = c.args.number in
     let es = c.args.entries.now in
-    let d : Given area at next number es pass c.put-row.new.area (at + 69) (number + 1) = search rules in
+    let d : Given area at next number es pass c.put_row.new.area (at + 69) (number + 1) = search rules in
     record {
       lender = refl;
       lengths = search rules;

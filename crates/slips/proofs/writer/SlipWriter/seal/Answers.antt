@@ -9,5 +9,5 @@ returns c =
     record {
       answers = search rules;
       area = search rules;
-      reads-back = λ s h. sealed_left s c.args.self.area.now at c.args.self.counters.next within (search rules) h;
+      reads_back = λ s h. sealed_left s c.args.self.area.now at c.args.self.counters.next within (search rules) h;
     }
