@@ -9,15 +9,15 @@ loop-column-init g c = tries_zero _ _ _
 pub loop-column-preserved : goal.loop-column-preserved
 loop-column-preserved g c =
     tries-turn _ _ _ _ _ _ (omega arith) c.loop-column.invariant
-    (sym c.eliminate-column.ensures.ok ∙ c.if-not-eliminate-column.false)
-    c.eliminate-column.ensures.left
+    (sym c.eliminate_column.ensures.ok ∙ c.if-not-eliminate_column.false)
+    c.eliminate_column.ensures.left
 
-pub returns-then-not-eliminate-column : goal.returns-then-not-eliminate-column
-returns-then-not-eliminate-column g c =
-    let e = tries-stop _ _ _ _ _ (omega arith) c.loop-column.invariant (sym c.eliminate-column.ensures.ok ∙ c.if-not-eliminate-column.true) in
+pub returns-then-not-eliminate_column : goal.returns-then-not-eliminate_column
+returns-then-not-eliminate_column g c =
+    let e = tries-stop _ _ _ _ _ (omega arith) c.loop-column.invariant (sym c.eliminate_column.ensures.ok ∙ c.if-not-eliminate_column.true) in
     record {
-      ok = c.if-not-eliminate-column.ensures.ok ∙ ap (λ (t : Tried (List g.N.Arithmetic.Meaning)). t.ok) e;
-      left = c.eliminate-column.ensures.left ∙ ap (λ (t : Tried (List g.N.Arithmetic.Meaning)). t.left) e;
+      ok = c.if-not-eliminate_column.ensures.ok ∙ ap (λ (t : Tried (List g.N.Arithmetic.Meaning)). t.ok) e;
+      left = c.eliminate_column.ensures.left ∙ ap (λ (t : Tried (List g.N.Arithmetic.Meaning)). t.left) e;
     }
 
 pub returns : goal.returns

@@ -8,7 +8,7 @@ pub loop-column-init : goal.loop-column-init
 loop-column-init g c = record { rest = refl }
 
 pub loop-column-preserved : goal.loop-column-preserved
-loop-column-preserved g c = left-turn _ _ _ _ _ _ (omega arith) c.loop-column.invariant c.lose-entry.ensures
+loop-column-preserved g c = left-turn _ _ _ _ _ _ (omega arith) c.loop-column.invariant c.lose_entry.ensures
 
 pub returns : goal.returns
 returns g c =
