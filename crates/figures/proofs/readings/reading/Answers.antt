@@ -12,7 +12,7 @@ pub returns : goal.returns
 returns c =
     let plan = c.args.plan.now in
     let k = c.args.number in
-    let some : is_some (branch_at plan k) ≡ true = ap (λ (o : Option Branch). is_some o) (sym c.at.ensures) ∙ c.if-is-none.ensures in
-    c.reading-of.ensures.answers
+    let some : is_some (branch_at plan k) ≡ true = ap (λ (o : Option Branch). is_some o) (sym c.at.ensures) ∙ c.if-is_none.ensures in
+    c.reading_of.ensures.answers
     ∙ ap (λ (r : Row Float). reading_of (thousandths r.voltage)) (get_or_default c.args.rows.now k _ _ (omega arith))
     ∙ placed_at (length c.args.rows.now) k (branch_at plan k) _ (omega arith) (omega arith) some

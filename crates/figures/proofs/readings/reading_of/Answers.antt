@@ -22,15 +22,15 @@ pub returns-then-abs : goal.returns-then-abs
 returns-then-abs c =
     let v = c.args.voltage in
     let w = whole_is v c.nearest-whole.result c.nearest-whole.ensures in
-    let z : to_z w32 (of_z w32 c.saturating-f64-to-i32.result) ≡ c.saturating-f64-to-i32.result = search rules in
+    let z : to_z w32 (of_z w32 c.saturating_f64_to_i32.result) ≡ c.saturating_f64_to_i32.result = search rules in
     let test : lt (float_with_sign false (round_with nearest_whole nearest_whole binary64 (thousandths v))) billion ≡ true =
     ap (λ (x : Float). lt (float_with_sign false x) billion) (sym w)
     ∙ ap (λ (x : Float). lt x billion) (sym c.abs.ensures.value)
     ∙ ap (lt c.abs.result) (sym billion_is)
     ∙ c.if-abs.true
     in
-    let answer : granted (to_z w32 (of_z w32 c.saturating-f64-to-i32.result)) ≡ reading_of (thousandths v) =
-    ap granted (z ∙ c.saturating-f64-to-i32.ensures ∙ ap (to_signed 31) w) ∙ reads_in (thousandths v) test
+    let answer : granted (to_z w32 (of_z w32 c.saturating_f64_to_i32.result)) ≡ reading_of (thousandths v) =
+    ap granted (z ∙ c.saturating_f64_to_i32.ensures ∙ ap (to_signed 31) w) ∙ reads_in (thousandths v) test
     in
     record { answers = answer; nearest = subst (Reads (thousandths v)) (sym answer) (reads_is (thousandths v)) }
 

@@ -9,5 +9,5 @@ pub returns : goal.returns
 returns c =
     let t = c.args.self.now in
     let v = c.args.voltage in
-    let d : Took t v pass c.with-taking.result = search rules in
+    let d : Took t v pass c.with_taking.result = search rules in
     record { does = d; sums = λ g s. subst (Sums (more_granted (taken t v) g v)) (sym d.traces) (sums_step g t v s) }
