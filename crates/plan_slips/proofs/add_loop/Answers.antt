@@ -7,7 +7,7 @@ returns-in-Ok-Some c = record {
   most = omega arith;
   rows = λ w t.
       one_more c.args.plan.now w c.args.k c.args.rows.now c.args.count c.in-Ok-Some.row _ (omega arith)
-      (λ i. record { number = c.args.k; entries = c.entries-of.ensures.value i })
+      (λ i. record { number = c.args.k; entries = c.entries_of.ensures.value i })
       (link_row c.args.plan.now w c.args.k (Some c.in-Ok-Some.row) (cc c.in-Ok-Some.ensures.answer) t);
 }
 

@@ -10,11 +10,11 @@ loop-k-init c = (omega arith, c.requires, λ w t. refl)
 
 pub loop-k-preserved : goal.loop-k-preserved
 loop-k-preserved c = (
-  omega (arith, c.add-loop-count.ensures.most, c.loop-k.invariant.0),
-  c.add-loop-count.auto.rows ∙ c.loop-k.invariant.1,
+  omega (arith, c.add_loop-count.ensures.most, c.loop-k.invariant.0),
+  c.add_loop-count.auto.rows ∙ c.loop-k.invariant.1,
   λ w t.
       own_more c.args.plan.now w c.loop-k.k _
-      (c.add-loop-count.ensures.rows w t ∙ ap (λ x. x ++ row_of c.loop-k.k (loop_of c.args.plan.now w c.loop-k.k)) (c.loop-k.invariant.2 w t)),
+      (c.add_loop-count.ensures.rows w t ∙ ap (λ x. x ++ row_of c.loop-k.k (loop_of c.args.plan.now w c.loop-k.k)) (c.loop-k.invariant.2 w t)),
 )
 
 pub returns : goal.returns
