@@ -12,9 +12,9 @@ returns-then-has g c parts x fr h m =
     let f = c.args.frame.now in
     let w = map g.N.Arithmetic.mean c.args.flows.now in
     c.gather.ensures
-    ∙ ap (λ z. gathered o (bits f.link) (entry c.turn-row.result) (λ k. get_or w (0 + k) o.nought) z) c.zero.ensures.meaning
-    ∙ current_fixed o parts f fr x c.args.k w c.turn-row.result (sym c.has.ensures ∙ c.if-has.true) h
-    (λ j. c.turn-row.ensures j ∙ ap (λ s. turned (entry s j)) c.cut.ensures)
+    ∙ ap (λ z. gathered o (bits f.link) (entry c.turn_row.result) (λ k. get_or w (0 + k) o.nought) z) c.zero.ensures.meaning
+    ∙ current_fixed o parts f fr x c.args.k w c.turn_row.result (sym c.has.ensures ∙ c.if-has.true) h
+    (λ j. c.turn_row.ensures j ∙ ap (λ s. turned (entry s j)) c.cut.ensures)
 
 pub returns-else-has : goal.returns-else-has
 returns-else-has g c parts x fr h m =

@@ -7,7 +7,7 @@ loop-k-init g c parts x fr h = filled_none _ _ _ _ c.zeros-currents.ensures
 
 pub loop-k-preserved : goal.loop-k-preserved
 loop-k-preserved g c parts x fr h =
-    filled_more _ _ _ c.loop-k.k _ _ _ (c.loop-k.invariant parts x fr h) (omega arith) (c.current-of-current.ensures parts x fr h) c.set-at.ensures
+    filled_more _ _ _ c.loop-k.k _ _ _ (c.loop-k.invariant parts x fr h) (omega arith) (c.current_of-current.ensures parts x fr h) c.set_at.ensures
 
 pub returns : goal.returns
 returns g c parts x fr h = let end : c.loop-k.k ≡ 32 = omega arith in filled_all _ _ _ _ _ end (c.loop-k.invariant parts x fr h)

@@ -14,9 +14,9 @@ loop-t-preserved g c parts x fr h =
     let o = g.N.Arithmetic.ops in
     let m = g.N.Arithmetic.mean in
     one_more _ _ _ _ _ (c.loop-t.invariant parts x fr h)
-    (c.take-if-sum.ensures
+    (c.take_if-sum.ensures
     ∙ link-turn o parts c.args.frame.now fr x c.args.k c.loop-t.t _ c.has.result _ (m c.get-term.result) (m c.loop-t.sum) (omega arith) (omega arith) h c.has.ensures
-    (c.sign-at.ensures ∙ ap (λ s. entry s c.args.k) c.cut.ensures) c.get-term.ensures)
+    (c.sign_at.ensures ∙ ap (λ s. entry s c.args.k) c.cut.ensures) c.get-term.ensures)
 
 pub returns : goal.returns
 unfolding link_voltage

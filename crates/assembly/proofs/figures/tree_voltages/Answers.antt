@@ -18,8 +18,8 @@ loop-t-preserved g c =
       advanced (bits c.args.frame.now.unknown) l.t l.row _ l.invariant.1 c.advance-row.ensures,
       λ parts fr levels.
           filled_more _ _ _ l.t _ _ _ (l.invariant.2 parts fr levels) (omega arith)
-          (λ m. c.tree-voltage-voltage.ensures parts fr levels (l.invariant.1 ∙ ap (λ S. count S l.t) fr.unknown))
-          c.set-at.ensures,
+          (λ m. c.tree_voltage-voltage.ensures parts fr levels (l.invariant.1 ∙ ap (λ S. count S l.t) fr.unknown))
+          c.set_at.ensures,
     )
 
 pub returns : goal.returns

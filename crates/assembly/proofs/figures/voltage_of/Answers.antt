@@ -9,5 +9,5 @@ returns-then-has g c parts x fr h =
 
 pub returns-else-has : goal.returns-else-has
 returns-else-has g c parts x fr h =
-    c.link-voltage.ensures parts x fr h
+    c.link_voltage.ensures parts x fr h
     ∙ voltage_link g.N.Arithmetic.ops parts c.args.frame.now fr x c.args.k (sym c.has.ensures ∙ c.if-has.false)

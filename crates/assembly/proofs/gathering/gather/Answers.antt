@@ -12,8 +12,8 @@ loop-k-preserved g c =
     let o = g.N.Arithmetic.ops in
     let m = g.N.Arithmetic.mean in
     one_more _ _ _ _ _ c.loop-k.invariant
-    (c.take-if-sum.ensures
-    ∙ (λ i. cond (c.has.ensures i) (taken o (c.sign-at.ensures i) (c.get-term.ensures i) (m c.loop-k.sum)) (m c.loop-k.sum)))
+    (c.take_if-sum.ensures
+    ∙ (λ i. cond (c.has.ensures i) (taken o (c.sign_at.ensures i) (c.get-term.ensures i) (m c.loop-k.sum)) (m c.loop-k.sum)))
 
 pub returns : goal.returns
 unfolding gathered

@@ -13,8 +13,8 @@ loop-k-preserved g c =
     let m = g.N.Arithmetic.mean in
     let term = c.product-term.ensures.meaning ∙ ap (λ x. o.mul x (m c.args.factor)) c.get.ensures in
     one_more _ _ _ _ _ c.loop-k.invariant
-    (c.take-if-sum.ensures
-    ∙ (λ i. cond (c.has.ensures i) (taken o (c.sign-at.ensures i) (term i) (m c.loop-k.sum)) (m c.loop-k.sum)))
+    (c.take_if-sum.ensures
+    ∙ (λ i. cond (c.has.ensures i) (taken o (c.sign_at.ensures i) (term i) (m c.loop-k.sum)) (m c.loop-k.sum)))
 
 pub returns : goal.returns
 unfolding scaled

@@ -16,7 +16,7 @@ loop-t-preserved g c =
       advanced (bits c.args.frame.now.unknown) l.t l.row _ l.invariant.1 c.advance-row.ensures,
       λ parts fr holds levels.
           one_more _ _ _ _ _ (l.invariant.2 parts fr holds levels)
-          (c.write-row.ensures parts fr (rows_kept _ parts l.t _ _ holds (l.invariant.2 parts fr holds levels)) levels (l.invariant.1 ∙ ap (λ S. count S l.t) fr.unknown)),
+          (c.write_row.ensures parts fr (rows_kept _ parts l.t _ _ holds (l.invariant.2 parts fr holds levels)) levels (l.invariant.1 ∙ ap (λ S. count S l.t) fr.unknown)),
     )
 
 pub returns : goal.returns

@@ -12,6 +12,6 @@ returns g c parts fr holds mt =
     let w = map g.N.Arithmetic.mean c.args.area.now in
     let f = c.args.frame.now in
     c.gather.ensures
-    ∙ ap (λ z. gathered o (bits f.feeding) (entry c.turn-row.result) (λ k. get_or w (32 + k) o.nought) z) c.zero.ensures.meaning
-    ∙ feeds-gathered o parts f w fr holds c.args.t c.turn-row.result mt
-    (λ k. c.turn-row.ensures k ∙ ap (λ a. turned (entry a k)) c.cut.ensures)
+    ∙ ap (λ z. gathered o (bits f.feeding) (entry c.turn_row.result) (λ k. get_or w (32 + k) o.nought) z) c.zero.ensures.meaning
+    ∙ feeds-gathered o parts f w fr holds c.args.t c.turn_row.result mt
+    (λ k. c.turn_row.ensures k ∙ ap (λ a. turned (entry a k)) c.cut.ensures)

@@ -12,9 +12,9 @@ returns g c parts fr holds levels mt =
     let w = map m c.args.area.now in
     let f = c.args.frame.now in
     let is_fixed = sym (ap (λ S. S c.args.v) fr.fixed) ∙ sym c.has.ensures ∙ c.if-not-has.false in
-    c.gather-scaled.ensures
-    ∙ level-gathered o parts f w fr holds c.args.t c.args.v c.turn-row-row.result c.agreement.result (m c.level.result) (m c.args.sum) mt (fr.fixed_in c.args.v is_fixed)
+    c.gather_scaled.ensures
+    ∙ level-gathered o parts f w fr holds c.args.t c.args.v c.turn_row-row.result c.agreement.result (m c.level.result) (m c.args.sum) mt (fr.fixed_in c.args.v is_fixed)
     (λ k. c.agreement.ensures k ∙ ap₂ (λ a b. agree (entry a k) (entry b k)) c.cut.ensures c.cut-2.ensures)
-    (λ k. c.turn-row-row.ensures k)
+    (λ k. c.turn_row-row.ensures k)
     (c.level.ensures ∙ levels c.args.v (omega arith) is_fixed)
     ∙ sym (ap (λ b. cond b (levelled o parts c.args.t c.args.v (m c.args.sum)) (m c.args.sum)) is_fixed)

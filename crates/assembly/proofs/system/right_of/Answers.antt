@@ -9,7 +9,7 @@ loop-v-init g c parts fr holds levels mt = none_made _ _
 
 pub loop-v-preserved : goal.loop-v-preserved
 loop-v-preserved g c parts fr holds levels mt =
-    one_more _ _ _ _ _ (c.loop-v.invariant parts fr holds levels mt) (c.level-by-sum.ensures parts fr holds levels mt)
+    one_more _ _ _ _ _ (c.loop-v.invariant parts fr holds levels mt) (c.level_by-sum.ensures parts fr holds levels mt)
 
 pub returns : goal.returns
 unfolding right_of
@@ -17,4 +17,4 @@ returns g c parts fr holds levels mt =
     let end : c.loop-v.v ≡ 32 = omega arith in
     let o = g.N.Arithmetic.ops in
     all_made _ _ _ _ _ end (c.loop-v.invariant parts fr holds levels mt)
-    ∙ ap (through (right_turn o parts c.args.t) 32) (c.feeds-of-sum.ensures parts fr holds mt)
+    ∙ ap (through (right_turn o parts c.args.t) 32) (c.feeds_of-sum.ensures parts fr holds mt)

@@ -18,7 +18,7 @@ loop-r-preserved g c =
       advanced (bits c.args.frame.now.unknown) l.r l.column _ l.invariant.1 c.advance-column.ensures,
       λ parts fr holds mt e.
           one_more _ _ _ _ _ (l.invariant.2 parts fr holds mt e)
-          (c.write-entry.ensures parts fr (entries-kept _ parts c.args.t l.r _ _ holds (l.invariant.2 parts fr holds mt e)) mt
+          (c.write_entry.ensures parts fr (entries-kept _ parts c.args.t l.r _ _ holds (l.invariant.2 parts fr holds mt e)) mt
           ∙ entry-at _ parts c.args.frame.now fr c.args.t l.r c.args.row l.column _ e l.invariant.1),
     )
 

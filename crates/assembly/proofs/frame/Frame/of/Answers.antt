@@ -10,11 +10,11 @@ pub returns : goal.returns
 returns c =
     let p = c.args.plan.now in
     record {
-      passive = c.less.ensures ∙ ap₂ except c.up-to-resting.ensures c.up-to-fixed.ensures ∙ fun_ext (passive_is p);
-      feeding = c.less-2.ensures ∙ ap₂ except c.up-to-placed.ensures c.up-to-fixed.ensures ∙ fun_ext (feeding_is p);
-      fixed = c.up-to-fixed.ensures ∙ fun_ext (fixed_is p);
+      passive = c.less.ensures ∙ ap₂ except c.up_to-resting.ensures c.up_to-fixed.ensures ∙ fun_ext (passive_is p);
+      feeding = c.less-2.ensures ∙ ap₂ except c.up_to-placed.ensures c.up_to-fixed.ensures ∙ fun_ext (feeding_is p);
+      fixed = c.up_to-fixed.ensures ∙ fun_ext (fixed_is p);
       tree = refl;
-      unknown = c.less-3.ensures ∙ ap (except (bits c.args.tree)) (c.up-to-fixed.ensures ∙ fun_ext (fixed_is p));
-      link = c.less-4.ensures ∙ ap (λ (S : Set). except S (bits c.args.tree)) (c.up-to-placed.ensures ∙ fun_ext (placed_is p));
-      cuts = c.cut-rows.ensures;
+      unknown = c.less-3.ensures ∙ ap (except (bits c.args.tree)) (c.up_to-fixed.ensures ∙ fun_ext (fixed_is p));
+      link = c.less-4.ensures ∙ ap (λ (S : Set). except S (bits c.args.tree)) (c.up_to-placed.ensures ∙ fun_ext (placed_is p));
+      cuts = c.cut_rows.ensures;
     }
