@@ -58,7 +58,7 @@ def labels(text):
     """What a proof file has from the checker: goals that it answers and names from the records of goals."""
     made = set(re.findall(r"^(?:abbrev |unfoldable |pub )*(\S+) : goal\.", text, re.M))
     for path, names, _ in USE.findall(text):
-        if re.search(r"\.(Goals|Given|Steps)$", path):
+        if re.search(r"\.(Goals|Given)$", path):
             made |= {n.split(" as ")[0].strip() for n in names.split(",")}
     return made
 
