@@ -6,7 +6,7 @@
 -- may_divide   what may be divided by: all but zero
 -- counted      zero with one added n times
 -- Exact        the laws of an exact arithmetic
-use Rattle.std.specs.Prelude.{◌≡◌, ℕ, zero, suc, ◌≤◌, min, Bool, true, false, not, ◌≢◌}
+use Rattle.std.specs.Prelude.{◌≡◌, ℕ, zero, suc, ◌≤◌, min, Bool, true, not, ◌≢◌}
 
 pub record Ops (M : Type 0) : Type 0 where
   pub nought : M

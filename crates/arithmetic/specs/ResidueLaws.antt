@@ -1,13 +1,13 @@
 -- Remainders modulo 8,191 obey every law of an exact arithmetic. Assumes nothing.
-use Rattle.std.specs.Prelude.{◌≡◌, ℕ, zero, suc, ◌+◌, ◌-◌, ◌*◌, ◌%◌, ◌<◌, ◌≤◌, Bool, true, T, ◌≢◌, nat_lt, refl}
-use Rattle.std.proofs.Common.{sym, ap, subst, ◌∙◌, add_comm, add_assoc, add-zero, mul_comm, mul_assoc, mul-one, mul-add, mod-eq_of_lt, arith, true-eqb, ltb→lt, lt→ltb, eqb→eq, lit<}
+use Rattle.std.specs.Prelude.{◌≡◌, ℕ, zero, suc, ◌+◌, ◌-◌, ◌*◌, ◌%◌, ◌<◌, ◌≢◌, nat_lt, refl}
+use Rattle.std.proofs.Common.{sym, ap, ◌∙◌, add_comm, add_assoc, add-zero, mul_comm, mul_assoc, mul-one, mul-add, mod-eq_of_lt, arith, true-eqb, ltb→lt}
 use mathlib.Core.HLevel.{Σ_prop_path}
 use Rattle.std.proofs.Math.Nat.{mod-add-mod, add-mod-mod, mod-mod, add-mod}
 use Rattle.std.proofs.Math.Dec.{T_prop}
 use Rattle.inverses.specs.Inverse.{inverse_of}
 use Rattle.inverses.proofs.Remainders.{mod-mul, mul-mod}
 use Rattle.inverses.proofs.Test.{inverse_rule}
-use Rattle.arithmetic.specs.Ops.{Ops, Exact, counted}
+use Rattle.arithmetic.specs.Ops.{Exact, counted}
 use Rattle.arithmetic.specs.Residues.{Residue, residue, residue_ops}
 
 -- equal numbers are equal residues

@@ -3,7 +3,7 @@
 -- Residue       a number below 8,191
 -- residue n     what n leaves when it is divided by 8,191
 -- residue_ops   the operations; a quotient is the product with the divisor's inverse, so a quotient by zero is zero
-use Rattle.std.specs.Prelude.{ℕ, ◌+◌, ◌-◌, ◌*◌, ◌%◌, Bool, true, T, ◌==◌, nat_lt}
+use Rattle.std.specs.Prelude.{ℕ, ◌+◌, ◌-◌, ◌*◌, ◌%◌, true, T, ◌==◌, nat_lt}
 use Rattle.std.proofs.Common.{mod-lt, lt→ltb, lit<}
 use Rattle.inverses.specs.Inverse.{inverse_of}
 use Rattle.arithmetic.specs.Ops.{Ops}

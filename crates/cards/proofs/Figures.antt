@@ -1,5 +1,5 @@
 -- Reading digits one by one. Assumes nothing.
-use Rattle.std.proofs.Common.{◌≡◌, ℕ, suc, ◌+◌, ◌-◌, ◌*◌, ◌^◌, ◌<◌, ◌≤◌, Bool, true, false, cond, ◌&&◌, eqb, ltb, leb, List, [], ◌∷◌, length, get_or, take, drop, Some, None, Option, sym, refl, ap, ◌∙◌, subst, mul-le-mul_right, mul_assoc, pow-suc, add-one, arith}
+use Rattle.std.proofs.Common.{◌≡◌, ℕ, suc, ◌+◌, ◌-◌, ◌*◌, ◌^◌, ◌<◌, ◌≤◌, Bool, true, false, cond, ◌&&◌, eqb, ltb, leb, List, [], ◌∷◌, length, get_or, take, drop, Some, None, Option, sym, refl, ap, ◌∙◌, mul-le-mul_right, mul_assoc, pow-suc, add-one, arith}
 use native.Mathlib.Nat.{pow-succ', pow-le-pow_right}
 use Rattle.std.proofs.lemmas.List.{at_drop_more, at_drop_all, take_rest}
 use Rattle.std.proofs.lemmas.Bool.{both_ways, and_parts, leb-true, lt-ltb, le-leb, and_right, le-ltb, eq-eqb, cond-true, cond-false}
@@ -7,7 +7,7 @@ use Rattle.cards.specs.declared.numeral.Numeral.{Numeral}
 use Rattle.cards.specs.Numerals.{is_digit, all_digits, decimal, plain, over, slash, value_digits, ratio, negated, signed, number_digits, figured, word_of, is_whole}
 use Rattle.cards.specs.declared.token.Token.{Token}
 use Rattle.cards.specs.declared.token.Token.TheVariants.{Number, Node, Value, Start}
-use Rattle.cards.specs.Cards.{Checked, right, wrong, wanted, byte_of, counted}
+use Rattle.cards.specs.Cards.{right, wanted, byte_of, counted}
 use Rattle.cards.specs.Parts.{reach}
 use Rattle.sheet.specs.declared.kind.Kind.{Kind}
 

@@ -1,6 +1,6 @@
 -- A line is skipped, a card, or wrong, exactly as it is read. Assumes nothing.
-use Rattle.std.proofs.Common.{◌≡◌, ℕ, suc, Bool, true, false, cond, not, ◌&&◌, eqb, ◌⊎◌, List, [], ◌∷◌, length, get_or, Some, None, Option, sym, refl, ap, ◌∙◌, subst, inl, inr, arith}
-use Rattle.std.proofs.lemmas.Bool.{true≢false, false≢true, eqb-true, eqb-false, eq-eqb}
+use Rattle.std.proofs.Common.{◌≡◌, ℕ, suc, Bool, true, false, cond, not, ◌&&◌, eqb, List, [], ◌∷◌, Some, None, Option, sym, refl, ap, ◌∙◌, subst, inl, inr, arith}
+use Rattle.std.proofs.lemmas.Bool.{true≢false, false≢true, eqb-true, eqb-false}
 use Rattle.arithmetic.specs.Ops.{Ops}
 use Rattle.sheet.specs.declared.kind.Kind.{Kind}
 use Rattle.sheet.specs.declared.kind.Kind.TheVariants.{Resistor, Inductor, Capacitor, VoltageSource, CurrentSource}
@@ -11,7 +11,7 @@ use Rattle.cards.specs.Cards.{Checked, right, wrong, then, byte_of, is_empty, ha
 use Rattle.cards.specs.Fields.{Word, Cutting, words, missing, word_end}
 use Rattle.cards.specs.Following.{LineSays}
 use Rattle.cards.specs.Numerals.{number_digits}
-use Rattle.cards.specs.Rules.{Means, Starts, IsCard, Starred, Skipped, Fails, FirstWrong, card_checks, asked, WrongFor, WrongLine}
+use Rattle.cards.specs.Rules.{Means, Starts, IsCard, Skipped, FirstWrong, card_checks, asked, WrongFor, WrongLine}
 use Rattle.cards.specs.Shapes.{Laid, Writes}
 use Rattle.cards.proofs.Shaping.{nonempty, laid_is, laid-words}
 use Rattle.cards.proofs.Showing.{some_none, no_shown}

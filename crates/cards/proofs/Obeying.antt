@@ -1,5 +1,5 @@
 -- A text is accepted exactly where it follows the rules, and its first fault is the one that is named. Assumes nothing.
-use Rattle.std.proofs.Common.{◌≡◌, ℕ, suc, ◌+◌, Bool, true, false, not, eqb, ◌⊎◌, List, [], ◌∷◌, ◌++◌, length, Some, None, Option, sym, refl, ap, ◌∙◌, subst, inl, inr, add-zero, arith}
+use Rattle.std.proofs.Common.{◌≡◌, ℕ, suc, ◌+◌, Bool, true, false, not, eqb, List, [], ◌∷◌, ◌++◌, length, Some, None, Option, sym, refl, ap, ◌∙◌, subst, inl, inr, add-zero, arith}
 use Rattle.std.proofs.lemmas.List.{length-map}
 use Rattle.std.proofs.lemmas.Bool.{eqb-true, eqb-false, eq-eqb, ne_eqb}
 use Rattle.arithmetic.specs.Ops.{Ops}
@@ -13,13 +13,11 @@ use Rattle.cards.specs.declared.fault.Layer.TheVariants as layer
 use Rattle.cards.specs.Cards.{Checked, right, wrong, line_of}
 use Rattle.cards.specs.Following.{cards_of, LineSays, Says, blank_sheet, placing, Placed, Follows, FaultOf, FaultAmong, FirstFault, Accepts, Blames}
 use Rattle.cards.specs.Parts.{parts}
-use Rattle.cards.specs.Reading.{Named, State, onward, settled, laid, line_done, lines_done, begun, cards_read}
-use Rattle.cards.specs.Rules.{IsCard, Skipped, WrongLine}
-use Rattle.cards.specs.Shapes.{Parted}
+use Rattle.cards.specs.Reading.{Named, State, onward, settled, laid, lines_done, begun, cards_read}
+use Rattle.cards.specs.Rules.{WrongLine}
 use Rattle.cards.proofs.Lining.{line_tells}
 use Rattle.cards.proofs.Shaping.{parted_parts, parted_is}
 use Rattle.cards.proofs.Showing.{some_none}
-use Rattle.cards.proofs.Telling.{Tells}
 
 granted_refused : {X A : Type 0} (x : X) (t : Told) → granted x ≡ refused t → A
 granted_refused x t e = let z : ◌≡◌ {A = ℕ} 0 1 = cc in absurd (omega arith)

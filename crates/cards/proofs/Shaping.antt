@@ -1,9 +1,9 @@
 -- Pieces and fields are what they are computed to be, and nothing else. Assumes nothing.
-use Rattle.std.proofs.Common.{◌≡◌, ℕ, suc, ◌+◌, Bool, true, false, eqb, ◌⊎◌, List, [], ◌∷◌, ◌++◌, length, sym, refl, ap, ◌∙◌, subst, inl, inr, append-nil, add-zero, arith}
+use Rattle.std.proofs.Common.{◌≡◌, ℕ, suc, ◌+◌, Bool, true, false, eqb, List, [], ◌∷◌, ◌++◌, length, sym, refl, ap, ◌∙◌, subst, append-nil, add-zero, arith}
 use Rattle.std.proofs.lemmas.Bool.{eqb-true, eqb-false, eq-eqb, ne_eqb}
 use Rattle.cards.specs.Fields.{Word, worded, words, words_from, word_end}
 use Rattle.cards.specs.Parts.{parts, before, onto}
-use Rattle.cards.specs.Shapes.{Lacks, EachLacks, joined, Parted, AllSpaces, Opens, Begins, Laid}
+use Rattle.cards.specs.Shapes.{Lacks, EachLacks, joined, Parted, AllSpaces, Opens, Laid}
 
 pub nonempty : {X : Type 0} (x : X) (xs : List X) → x ∷ xs ≡ [] → ⊥
 nonempty x xs e = let z : ◌≡◌ {A = ℕ} 1 0 = ap (λ l. size l) e in omega arith

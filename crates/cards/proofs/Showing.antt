@@ -1,11 +1,11 @@
 -- The text of a number is read for what it shows, and for nothing else. Assumes nothing.
-use Rattle.std.proofs.Common.{◌≡◌, ℕ, suc, ◌+◌, ◌<◌, ◌≤◌, Bool, true, false, cond, ◌&&◌, eqb, ltb, leb, ◌⊎◌, List, [], ◌∷◌, ◌++◌, length, take, drop, Some, None, Option, sym, refl, ap, ◌∙◌, subst, inl, inr, ⊎_elim, arith, take-append-drop}
-use Rattle.std.proofs.lemmas.List.{take_at, drop_at, length-append}
-use Rattle.std.proofs.lemmas.Bool.{false≢true, and_parts, ltb-true, leb-true, lt-ltb, le-leb, le-ltb, eqb-true, eqb-false, eq-eqb, ne_eqb, cond-true, cond-false}
+use Rattle.std.proofs.Common.{◌≡◌, ℕ, suc, ◌+◌, ◌<◌, ◌≤◌, Bool, true, false, cond, ◌&&◌, eqb, ltb, leb, ◌⊎◌, List, [], ◌∷◌, ◌++◌, length, take, drop, Some, None, Option, sym, refl, ap, ◌∙◌, subst, inl, inr, arith, take-append-drop}
+use Rattle.std.proofs.lemmas.List.{take_at, length-append}
+use Rattle.std.proofs.lemmas.Bool.{false≢true, and_parts, ltb-true, leb-true, lt-ltb, le-leb, eqb-true, eq-eqb, ne_eqb, cond-true}
 use Rattle.cards.specs.declared.numeral.Numeral.{Numeral}
 use Rattle.cards.specs.Numerals.{is_digit, all_digits, decimal, plain, over, slash, value_digits, ratio, negated, signed}
 use Rattle.cards.specs.Parts.{reach, further, parts}
-use Rattle.cards.specs.Shapes.{Lacks, Digits, Writes, Over, Ratio, Minus, Shows}
+use Rattle.cards.specs.Shapes.{Lacks, Digits, Writes, Ratio, Shows}
 use Rattle.cards.proofs.Figures.{ratio-whole}
 use Rattle.cards.proofs.Pieces.{Ends, Found, first_piece}
 use Rattle.cards.proofs.Shaping.{nonempty}

@@ -1,6 +1,6 @@
 -- A check tells exactly when all is right, and which fault is the first. Assumes nothing.
-use Rattle.std.proofs.Common.{◌≡◌, ℕ, suc, Bool, true, false, cond, not, ◌&&◌, ◌⊎◌, List, [], ◌∷◌, Some, None, Option, sym, refl, ap, ◌∙◌, subst, inl, inr, arith}
-use Rattle.std.proofs.lemmas.Bool.{true≢false, false≢true}
+use Rattle.std.proofs.Common.{◌≡◌, ℕ, Bool, true, false, cond, not, ◌&&◌, ◌⊎◌, List, [], ◌∷◌, Some, None, Option, sym, refl, ap, ◌∙◌, subst, inl, inr, arith}
+use Rattle.std.proofs.lemmas.Bool.{true≢false}
 use Rattle.arithmetic.specs.Ops.{Ops, may_divide}
 use Rattle.sheet.specs.declared.kind.Kind.{Kind}
 use Rattle.sheet.specs.declared.placement.Placement.{Placement}
@@ -10,7 +10,7 @@ use Rattle.cards.specs.declared.numeral.Numeral.{Numeral}
 use Rattle.cards.specs.Cards.{Checked, right, wrong, then, wanted, barred, byte_of, is_empty, counted, whole_in, amount, measured, value_of, start_of, has_start, over_of, card_of}
 use Rattle.cards.specs.Fields.{Word, Cutting}
 use Rattle.cards.specs.Numerals.{plain, number_digits, signed, ratio}
-use Rattle.cards.specs.Rules.{Means, Fails, Check, FirstWrong, number_check, value_check, start_check_by, over_check, card_checks}
+use Rattle.cards.specs.Rules.{Means, Fails, FirstWrong, number_check, start_check_by, over_check, card_checks}
 use Rattle.cards.specs.Shapes.{Writes, Shows}
 use Rattle.cards.proofs.Shaping.{nonempty}
 use Rattle.cards.proofs.Showing.{some_none, plain_writes, writes_plain, shown_shows, shows_shown}

@@ -15,7 +15,7 @@
 use Rattle.std.specs.Prelude.{◌≡◌, ℕ, suc, ◌+◌, ◌⊎◌, List, [], ◌∷◌, ◌++◌, length, replicate, Some, None, Option, ◌≢◌}
 use Rattle.arithmetic.specs.Ops.{Ops}
 use Rattle.sheet.specs.declared.placement.Placement.{Placement}
-use Rattle.sheet.specs.Calls.{Sheet, Call, place, outcome, zero_row}
+use Rattle.sheet.specs.Calls.{Sheet, place, outcome, zero_row}
 use Rattle.sheet.specs.Plans.{empty_plan}
 use Rattle.sheet.specs.Meanings.{meanings}
 use Rattle.sheet.specs.Refusals.{Answer, granted, refused}

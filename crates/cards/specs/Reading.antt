@@ -17,7 +17,7 @@ use Rattle.arithmetic.specs.Ops.{Ops}
 use Rattle.sheet.specs.declared.placement.Placement.{Placement}
 use Rattle.sheet.specs.declared.plan.Plan.{Plan}
 use Rattle.sheet.specs.declared.row.Row.{Row}
-use Rattle.sheet.specs.Calls.{Sheet, Call, blank, place, outcome}
+use Rattle.sheet.specs.Calls.{Sheet, blank, place, outcome}
 use Rattle.sheet.specs.Meanings.{meanings, meant_sheet}
 use Rattle.sheet.specs.Refusals.{Told, means, Answer, granted, refused}
 use Rattle.cards.specs.declared.fault.Fault.{Fault}

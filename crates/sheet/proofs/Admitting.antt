@@ -1,5 +1,5 @@
 -- The answer to a placement, from what each check found. Assumes nothing.
-use Rattle.std.proofs.Common.{◌≡◌, ℕ, ◌<◌, ◌≤◌, Bool, true, false, not, ◌||◌, ltb, ◌⊎◌, [], Some, Option, sym, refl, ap, ◌∙◌, subst, inl, inr, arith}
+use Rattle.std.proofs.Common.{◌≡◌, ℕ, ◌<◌, ◌≤◌, Bool, true, false, not, ◌||◌, ltb, ◌⊎◌, [], Some, sym, refl, ap, ◌∙◌, inl, inr, arith}
 use borrow.Author.Tests.{true-ltb, false-ltb, clash}
 use Rattle.sheet.specs.declared.branch.Branch.{Branch}
 use Rattle.sheet.specs.declared.ends.Ends.{Ends}

@@ -1,11 +1,11 @@
 -- When the ends of a placement are refused, and which they are when not. Assumes nothing.
-use Rattle.std.proofs.Common.{◌≡◌, ℕ, ◌<◌, ◌≤◌, ◌⊎◌, [], refl, inl, inr, arith}
+use Rattle.std.proofs.Common.{◌≡◌, ℕ, ◌<◌, ◌≤◌, ◌⊎◌, [], refl, arith}
 use mathlib.Core.HLevel.{¬_prop}
 use native.Mathlib.Bridge.{le_prop}
 use native.Mathlib.Decide.{dec_lt, ℕ_discrete}
 use Rattle.sheet.specs.declared.ends.Ends.{Ends}
 use Rattle.sheet.specs.Calls.{joining, drawn}
-use Rattle.sheet.specs.Refusals.{Answer, granted, refused}
+use Rattle.sheet.specs.Refusals.{granted, refused}
 
 pub drawn_far : (t h : ℕ) → (15 < t) ⊎ ((t ≤ 15) × (15 < h)) → refused (record { number = 6; words = [] }) ≡ drawn t h
 unfolding drawn

@@ -11,7 +11,7 @@
 -- first_row     the row of a branch just placed: an inductor starts with a current, a capacitor with a voltage
 -- outcome       the answer of a call: granted with the sheet that it makes, or refused
 -- left          the sheet after an answer: a refused call leaves it as it was
-use Rattle.std.specs.Prelude.{◌≡◌, ℕ, ◌<◌, Bool, true, false, not, ◌&&◌, List, [], length, replicate, is_some, Some, None, Option, ◌==◌, nat_lt, slice_index_or, slice_set}
+use Rattle.std.specs.Prelude.{◌≡◌, ℕ, ◌<◌, Bool, not, ◌&&◌, List, [], length, replicate, is_some, Some, None, Option, ◌==◌, nat_lt, slice_index_or, slice_set}
 use Rattle.std.proofs.Math.Decide.{dec_lt, ℕ_discrete}
 use Rattle.arithmetic.specs.Ops.{Ops, may_divide}
 use Rattle.sheet.specs.declared.branch.Branch.{Branch}

@@ -2,7 +2,7 @@
 --
 -- shown    a branch with its row
 -- seen     what stands at a place, if there is a branch and the row table has 32 rows
-use Rattle.std.specs.Prelude.{ℕ, cond, ◌&&◌, List, length, Some, None, Option, ◌==◌, nat_lt, slice_index_or}
+use Rattle.std.specs.Prelude.{ℕ, cond, ◌&&◌, List, length, None, Option, ◌==◌, nat_lt, slice_index_or}
 use Rattle.std.specs.Option.{option_map}
 use Rattle.sheet.specs.declared.branch.Branch.{Branch}
 use Rattle.sheet.specs.declared.look.Look.{Look}

@@ -1,5 +1,5 @@
 -- An area after opening and after an end, by its length. Assumes nothing.
-use Rattle.std.proofs.Common.{◌≡◌, ℕ, ◌+◌, ◌<◌, ◌≤◌, Bool, true, false, cond, List, length, get_or, sym, refl, ap, ◌∙◌, subst, arith, ext_get_or, le-ltb, lt-ltb}
+use Rattle.std.proofs.Common.{◌≡◌, ℕ, ◌<◌, ◌≤◌, Bool, cond, List, length, get_or, sym, ap, ◌∙◌, arith, ext_get_or, le-ltb, lt-ltb}
 use native.Mathlib.Decide.{dec_lt}
 use Rattle.slips.specs.Bits.{put_bits, low, zeroed}
 use Rattle.slips.specs.Writing.{opened, blanked, Blank, Past}

@@ -1,8 +1,7 @@
 -- What a writer holds, from opening to sealing. Assumes nothing.
 use Rattle.std.proofs.Common.{◌≡◌, ℕ, ◌+◌, ◌*◌, ◌/◌, ◌^◌, ◌<◌, ◌≤◌, Bool, true, false, not, T, ltb, List, [], ◌∷◌, ◌++◌, length, get_or, take, ℤ, sym, refl, ap, ◌∙◌, subst, append_assoc, arith}
-use borrow.Author.Tests.{true-ltb, false-ltb}
 use Rattle.std.proofs.lemmas.List.{append-nil, length-append}
-use Rattle.sheet.specs.Refusals.{Answer, granted, refuse, Verdict}
+use Rattle.sheet.specs.Refusals.{granted, refuse, Verdict}
 use Rattle.slips.specs.Bits.{put_bits, low, zeroed}
 use Rattle.slips.specs.declared.row.SlipRow.{SlipRow}
 use Rattle.slips.specs.Slips.{Slip, is_row, row_bits, rows_bits, slip_bits, next_of, Rising, Proper}

@@ -1,11 +1,10 @@
 -- An area that holds packed bits, as more bits are put in after them. Assumes nothing.
-use Rattle.std.proofs.Common.{◌≡◌, ℕ, zero, suc, ◌+◌, ◌-◌, ◌*◌, ◌/◌, ◌%◌, ◌^◌, ◌<◌, ◌≤◌, ◌≢◌, ◌⊎◌, List, [], ◌∷◌, ◌++◌, length, get_or, set, sym, refl, ap, ◌∙◌, subst, inl, inr, append_assoc, lt_of_lt_of_le, add-zero, add_assoc, add-suc, mod-lt, mul_assoc, pow-suc, zero-mul, mul-one, arith, pow-add, shl_lt}
+use Rattle.std.proofs.Common.{◌≡◌, ℕ, zero, suc, ◌+◌, ◌-◌, ◌*◌, ◌/◌, ◌%◌, ◌^◌, ◌<◌, ◌≤◌, ◌≢◌, List, [], ◌∷◌, ◌++◌, length, get_or, sym, refl, ap, ◌∙◌, subst, append_assoc, add-zero, add_assoc, add-suc, mod-lt, mul_assoc, pow-suc, arith, shl_lt}
 use native.Mathlib.Decide.{ℕ_discrete}
 use lib.Bits.{bit_or, or_shifted}
-use Rattle.std.proofs.lemmas.List.{append-nil, length-set, length-append, get_or_append_left, get_or_past, get_or_push, get_or-set_same, get_or-set_other, length_push}
+use Rattle.std.proofs.lemmas.List.{append-nil, length-set, get_or_append_left, get_or_past, get_or_push, get_or-set_same, get_or-set_other, length_push}
 use Rattle.slips.specs.Bits.{put_bit, put_bits, high, low, word_at, byte_at, zeroed}
 use Rattle.slips.specs.Writing.{Packed}
-use Rattle.slips.proofs.Putting.{length-put_bits}
 
 -- ---- the number that bits make
 pub word_at_same : (xs ys : List ℕ) (at n : ℕ) → ((i : ℕ) → i < n → get_or xs (at + i) 0 ≡ get_or ys (at + i) 0) → word_at xs at n ≡ word_at ys at n

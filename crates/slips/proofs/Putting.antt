@@ -1,5 +1,5 @@
 -- Bits put in one after another. Assumes nothing.
-use Rattle.std.proofs.Common.{◌≡◌, ℕ, zero, suc, ◌+◌, ◌-◌, ◌*◌, ◌/◌, ◌%◌, ◌^◌, ◌<◌, ◌≤◌, Bool, true, false, ◌&&◌, ◌≢◌, List, [], ◌∷◌, ◌++◌, length, get_or, take, drop, set, ℤ, pos, sym, refl, ap, ◌∙◌, lt_of_lt_of_le, add-zero, add_assoc, add-one, arith, get_or-set_other, get_or-set_same, ext_get_or, pow_mono, shl_lt}
+use Rattle.std.proofs.Common.{◌≡◌, ℕ, zero, suc, ◌+◌, ◌-◌, ◌*◌, ◌/◌, ◌%◌, ◌^◌, ◌<◌, ◌≤◌, Bool, true, false, ◌&&◌, List, [], ◌∷◌, ◌++◌, length, get_or, drop, set, ℤ, pos, sym, refl, ap, ◌∙◌, lt_of_lt_of_le, add-zero, add-one, arith, pow_mono, shl_lt}
 use lib.Bits.{bit_and, and_mask}
 use Rattle.std.proofs.lemmas.List.{length-set, at_drop_more, at_drop_all, drop_more}
 use Rattle.slips.specs.Bits.{put_bit, put_bits, high, low, zeroed}

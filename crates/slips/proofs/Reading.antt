@@ -1,13 +1,13 @@
 -- Reading a slip back from its bytes. Assumes nothing.
-use Rattle.std.proofs.Common.{◌≡◌, ℕ, zero, suc, ◌+◌, ◌-◌, ◌*◌, ◌/◌, ◌%◌, ◌^◌, ◌<◌, ◌≤◌, Bool, true, false, cond, ◌&&◌, T, eqb, ltb, leb, List, [], ◌∷◌, ◌++◌, length, get_or, take, drop, ℤ, pos, negsuc, sym, refl, ap, ◌∙◌, subst, append_assoc, add-zero, add-suc, mod-eq_of_lt, mul_assoc, add_comm, suc-add, pow-suc, zero-add, add-one, one-add, arith, eqb→eq, ltb→lt, leb→le, get_or-drop, get_or-take, take_at, drop_at, pow_pos, pow-add}
+use Rattle.std.proofs.Common.{◌≡◌, ℕ, zero, suc, ◌+◌, ◌-◌, ◌*◌, ◌/◌, ◌%◌, ◌^◌, ◌<◌, ◌≤◌, Bool, true, false, ◌&&◌, T, eqb, ltb, leb, List, [], ◌∷◌, ◌++◌, length, get_or, take, drop, ℤ, pos, negsuc, sym, refl, ap, ◌∙◌, append_assoc, add-zero, mod-eq_of_lt, mul_assoc, add_comm, suc-add, pow-suc, zero-add, add-one, one-add, arith, eqb→eq, ltb→lt, leb→le, get_or-take, take_at, drop_at, pow_pos, pow-add}
 use native.Mathlib.Nat.{add-mul-div_right}
 use Rattle.std.proofs.lemmas.Nat.{div-mul-add}
-use Rattle.std.proofs.lemmas.List.{length-append, length-take-le, get_or-append-add}
+use Rattle.std.proofs.lemmas.List.{length-append, length-take-le}
 use Rattle.slips.specs.Bits.{high, low, word_at, byte_at}
 use Rattle.slips.specs.declared.row.SlipRow.{SlipRow}
 use Rattle.slips.specs.Entries.{code_of, entry_of, is_entry, are_entries, entries_bits}
 use Rattle.slips.specs.Slips.{Slip, is_row, row_bits, rows_bits, slip_bits, Rising, Proper, unpacked, from_low, read_entries, read_rows, read_back}
-use Rattle.slips.specs.Writing.{Packed, ReadsBack}
+use Rattle.slips.specs.Writing.{Packed}
 use Rattle.slips.proofs.Packing.{Small, small_append, small_high, small_low, word_at-first}
 use Rattle.slips.proofs.Putting.{length_high, length-low}
 

@@ -1,5 +1,5 @@
 -- A whole slip: rows given one after another, up to a refusal or the seal. Assumes nothing.
-use Rattle.std.proofs.Common.{◌≡◌, ℕ, ◌+◌, ◌*◌, ◌/◌, ◌<◌, ◌≤◌, Bool, true, false, not, ltb, List, [], ◌∷◌, ◌++◌, length, get_or, take, drop, ℤ, Ok, Err, Result, sym, refl, ap, ◌∙◌, subst, arith, le-ltb, lt-ltb, MatchResult}
+use Rattle.std.proofs.Common.{◌≡◌, ℕ, ◌+◌, ◌*◌, ◌/◌, ◌<◌, ◌≤◌, Bool, true, false, not, List, [], ◌∷◌, ◌++◌, length, get_or, take, drop, ℤ, Ok, Err, Result, sym, refl, ap, ◌∙◌, subst, arith, lt-ltb, MatchResult}
 use native.Mathlib.Decide.{dec_lt}
 use Rattle.std.proofs.lemmas.List.{take_more, take_all, drop_more, drop_all}
 use Rattle.sheet.specs.declared.refusal.Refusal.{Refusal}
@@ -7,7 +7,7 @@ use Rattle.sheet.specs.Refusals.{Answer, granted, refused, refuse, after, told, 
 use Rattle.slips.specs.declared.row.SlipRow.{SlipRow}
 use Rattle.slips.specs.Bits.{put_bits}
 use Rattle.slips.specs.Slips.{Slip, is_row, row_bits}
-use Rattle.slips.specs.Writing.{opened, blanked, on_area, row_answer, seal_answer, rows_answer, slip_answer, kept, Given, Past, Holds, with_row, ReadsBack, ToldApart}
+use Rattle.slips.specs.Writing.{opened, blanked, row_answer, seal_answer, rows_answer, slip_answer, kept, Given, Past, Holds, with_row, ReadsBack, ToldApart}
 use Rattle.slips.proofs.Ending.{blanked_past, blanked_short, blanked_same, opened_short, opened_wide, opened_past}
 use Rattle.slips.proofs.Putting.{length-put_bits, length-zeroed}
 

@@ -16,9 +16,9 @@
 -- with_row      the slip with one more row, if the answer is granted
 -- ReadsBack    the bytes used are the slip's, and the slip can be read back from them
 -- ToldApart    no two slips share both the bytes used and their count
-use Rattle.std.specs.Prelude.{◌≡◌, ℕ, ◌+◌, ◌*◌, ◌/◌, ◌<◌, ◌≤◌, Bool, true, false, cond, not, List, [], ◌∷◌, ◌++◌, length, take, ℤ, nat_lt, slice_index}
+use Rattle.std.specs.Prelude.{◌≡◌, ℕ, ◌+◌, ◌*◌, ◌/◌, ◌<◌, ◌≤◌, cond, not, List, [], ◌∷◌, ◌++◌, length, take, ℤ, nat_lt, slice_index}
 use Rattle.sheet.specs.Refusals.{Answer, granted, refused, refuse, after, Verdict, verdict_of}
-use Rattle.slips.specs.Bits.{put_bits, high, low, byte_at, zeroed}
+use Rattle.slips.specs.Bits.{put_bits, low, byte_at, zeroed}
 use Rattle.slips.specs.declared.row.SlipRow.{SlipRow}
 use Rattle.slips.specs.Slips.{Slip, Proper, is_row, row_bits, slip_bits, next_of, read_back}
 

@@ -7,7 +7,7 @@ use Rattle.cards.specs.Following.{Accepts, Blames}
 use Rattle.cards.specs.Lines.{lines_left}
 use Rattle.cards.specs.Reading.{State, lines_done, cards_read}
 use Rattle.cards.proofs.Obeying.{accepts_text, blames_text}
-use Rattle.cards.proofs.Placing.{Left, blanked_text, refused_text, turn_on, turn_ends, turn_stops}
+use Rattle.cards.proofs.Placing.{blanked_text, refused_text, turn_on, turn_ends, turn_stops}
 use Rattle.cards.proofs.calls.read_cards.Given as given
 use Rattle.cards.proofs.calls.read_cards.Goals as goal
 use Rattle.cards.proofs.calls.read_cards.Goals.{After-new-reader}

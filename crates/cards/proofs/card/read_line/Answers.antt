@@ -1,7 +1,7 @@
-use Rattle.std.proofs.Common.{◌≡◌, ◌+◌, ◌-◌, ◌<◌, length, get_or, take, drop, Some, sym, refl, ap, ◌∙◌, rules}
+use Rattle.std.proofs.Common.{◌≡◌, ◌+◌, ◌-◌, ◌<◌, length, get_or, take, drop, Some, refl, ap, ◌∙◌, rules}
 use Rattle.std.proofs.lemmas.Result.{err_from_is_err_and}
 use Rattle.cards.specs.Cards.{right, then, card_of, opened, line_of}
-use Rattle.cards.specs.Fields.{seen, seen_cut}
+use Rattle.cards.specs.Fields.{seen_cut}
 use Rattle.cards.proofs.Chains.{card_line}
 use Rattle.cards.proofs.card.read_line.Given as given
 use Rattle.cards.proofs.card.read_line.Goals as goal

@@ -1,4 +1,4 @@
-use Rattle.std.proofs.Common.{◌+◌, ◌*◌, ◌<◌, length, sym, refl, ap, subst, arith, rules}
+use Rattle.std.proofs.Common.{◌+◌, ◌*◌, ◌<◌, length, sym, refl, subst, arith, rules}
 use Rattle.cards.proofs.Figures.{Sofar, digit_more, digit_wrong, digits_right}
 use Rattle.cards.proofs.digits.digits.Goals as goal
 

@@ -1,5 +1,5 @@
-use Rattle.std.proofs.Common.{arith, rules}
-use Rattle.cards.proofs.Figures.{Count, count_of}
+use Rattle.std.proofs.Common.{rules}
+use Rattle.cards.proofs.Figures.{count_of}
 use Rattle.cards.proofs.tokens.count.Goals as goal
 
 pub overflow_cast-result : goal.overflow_cast-result

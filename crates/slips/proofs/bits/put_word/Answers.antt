@@ -1,4 +1,4 @@
-use Rattle.std.proofs.Common.{◌≡◌, ℕ, ◌+◌, ◌-◌, ◌/◌, ◌^◌, List, sym, ap, ◌∙◌, arith}
+use Rattle.std.proofs.Common.{◌≡◌, ℕ, ◌+◌, ◌-◌, List, sym, ap, ◌∙◌, arith}
 use Rattle.slips.specs.Bits.{put_bit, put_bits, high}
 use Rattle.slips.proofs.Putting.{word-turn, word_done, last_bit}
 use Rattle.slips.proofs.bits.put_word.Goals as goal

@@ -1,4 +1,4 @@
-use Rattle.std.proofs.Common.{ℕ, ◌+◌, List, sym, ap, ◌∙◌}
+use Rattle.std.proofs.Common.{ℕ, ◌+◌, List, ap, ◌∙◌}
 use Rattle.slips.specs.Bits.{put_bits}
 use Rattle.slips.specs.Entries.{entries_bits}
 use Rattle.slips.proofs.Putting.{row_put}

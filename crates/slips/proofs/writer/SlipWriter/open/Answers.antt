@@ -1,5 +1,5 @@
-use Rattle.std.proofs.Common.{◌≡◌, ℕ, List, [], sym, refl, subst, arith}
-use Rattle.slips.specs.Writing.{opened, Holds}
+use Rattle.std.proofs.Common.{ℕ, List, [], sym, refl, subst, arith}
+use Rattle.slips.specs.Writing.{Holds}
 use Rattle.slips.proofs.Holding.{opened_holds}
 use Rattle.slips.proofs.writer.SlipWriter.open.Goals as goal
 
