@@ -7,9 +7,9 @@ loop-k-init g c = (none_made _ _, refl, λ j d f. refl)
 
 pub loop-k-preserved : goal.loop-k-preserved
 loop-k-preserved g c = (
-  one_more _ _ _ _ _ c.loop-k.invariant.0 c.renew-row.ensures.rows,
-  c.renew-row.ensures.gives ∙ c.loop-k.invariant.1,
-  λ j d f. c.renew-row.ensures.others j d f ∙ c.loop-k.invariant.2 j d f,
+  one_more _ _ _ _ _ c.loop-k.invariant.0 c.renew_row.ensures.rows,
+  c.renew_row.ensures.gives ∙ c.loop-k.invariant.1,
+  λ j d f. c.renew_row.ensures.others j d f ∙ c.loop-k.invariant.2 j d f,
 )
 
 pub returns : goal.returns

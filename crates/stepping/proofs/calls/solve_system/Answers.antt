@@ -15,7 +15,7 @@ returns-in-Ok g c =
     let s =
     solves o m p rows long f.tree tree_is h f c.requires.1.1.1 _ _ _ _ _ _
     (blank_is o m g.N.Arithmetic.nil _ _ g.met.N.Arithmetic.nought c.requires.0 c.clear.ensures)
-    c.store-companions.ensures c.assemble-unknowns.ensures.system c.assemble-unknowns.ensures.unknowns c.solve.ensures.answer c.solve.ensures.left
+    c.store_companions.ensures c.assemble-unknowns.ensures.system c.assemble-unknowns.ensures.unknowns c.solve.ensures.answer c.solve.ensures.left
     in
     worked_some o h _ _ _ (is_ok o m p rows long f.tree tree_is h _ (sym c.in-Ok.is ∙ s.verdict)) s.unknowns s.left
 
@@ -32,6 +32,6 @@ returns-in-Err g c =
     let s =
     solves o m p rows long f.tree tree_is h f c.requires.1.1.1 _ _ _ _ _ _
     (blank_is o m g.N.Arithmetic.nil _ _ g.met.N.Arithmetic.nought c.requires.0 c.clear.ensures)
-    c.store-companions.ensures c.assemble-unknowns.ensures.system c.assemble-unknowns.ensures.unknowns c.solve.ensures.answer c.solve.ensures.left
+    c.store_companions.ensures c.assemble-unknowns.ensures.system c.assemble-unknowns.ensures.unknowns c.solve.ensures.answer c.solve.ensures.left
     in
     worked_none o h _ _ (is_err o m p rows long f.tree tree_is h _ (sym c.in-Err.is ∙ s.verdict)) s.left
