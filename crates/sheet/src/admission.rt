@@ -1,6 +1,6 @@
 // Which refusal, or which branch and first row, a placement gives on an empty place.
 ghost use Rattle.std.specs.Prelude.{◌≡◌, ◌<◌, ◌||◌, ◌≢◌, nat_lt};
-ghost use Rattle.sheet.specs.Calls.{valued, takes_value, takes_start, first_row, admitted};
+ghost use Rattle.sheet.specs.Calls.{valued, takes_value, takes_start, admitted};
 ghost use Rattle.sheet.specs.Refusals.{told};
 
 use crate::branch::Branch;
@@ -11,20 +11,23 @@ use crate::refusal::Refusal;
 use crate::row::Row;
 use arithmetic::{Arithmetic, may_divide};
 
-// Refusals 5 to 9 in that order, or the branch with its first row.
+// Refusals 5 to 9 in that order, or the branch with its first row: an inductor starts with a current, a capacitor
+// with a voltage.
 pub(crate) fn admit<N: Arithmetic>(p: Placement<N>) -> Result<(Branch, Row<N>), Refusal>
     ensures { told result ≡ admitted (valued N.ops N.mean N.nil) p }
 {
+    let (start, zero) = (p.start, N::zero());
     match Kind::numbered(p.kind) {
         None => Err(Refusal::NoSuchKind),
         Some(_) if either_above_15(p.tail, p.head) => Err(Refusal::NoSuchNode),
         Some(_) if p.tail == p.head => Err(Refusal::EndsMeet),
         Some(kind) if !takes_value(kind, p.value) => Err(Refusal::BadValue),
-        Some(kind) if !takes_start(kind, p.start) => Err(Refusal::BadStart),
-        Some(kind) => Ok((
-            drawn(kind, p.tail, p.head),
-            first_row(kind, p.value, p.start),
-        )),
+        Some(kind) if !takes_start(kind, start) => Err(Refusal::BadStart),
+        Some(Kind::Resistor) => Ok(started(Kind::Resistor, p, zero, zero)),
+        Some(Kind::Inductor) => Ok(started(Kind::Inductor, p, start, zero)),
+        Some(Kind::Capacitor) => Ok(started(Kind::Capacitor, p, zero, start)),
+        Some(Kind::VoltageSource) => Ok(started(Kind::VoltageSource, p, zero, zero)),
+        Some(Kind::CurrentSource) => Ok(started(Kind::CurrentSource, p, zero, zero)),
     }
 }
 
@@ -55,36 +58,25 @@ fn takes_start<N: Arithmetic>(kind: Kind, start: N) -> bool
     }
 }
 
-// The branch of that kind between these nodes.
-fn drawn(kind: Kind, tail: u32, head: u32) -> Branch
-    requires tail_within { tail < 16 }
-    requires head_within { head < 16 }
-    requires apart { tail ≢ head }
-    ensures kind { result.kind ≡ kind }
-    ensures tail { result.ends.tail ≡ tail }
-    ensures head { result.ends.head ≡ head }
+// The branch of that kind, and its row with that current and voltage.
+fn started<N: Copy>(kind: Kind, p: Placement<N>, current: N, voltage: N) -> (Branch, Row<N>)
+    requires tail_within { p.tail < 16 }
+    requires head_within { p.head < 16 }
+    requires apart { p.tail ≢ p.head }
+    ensures kind { result.0.kind ≡ kind }
+    ensures tail { result.0.ends.tail ≡ p.tail }
+    ensures head { result.0.ends.head ≡ p.head }
+    ensures row { result.1 ≡ record { value = p.value; start = p.start; current = current; voltage = voltage } }
 {
     let ends = Ends {
-        tail: tail as u8,
-        head: head as u8,
+        tail: p.tail as u8,
+        head: p.head as u8,
     };
-    Branch { kind, ends }
-}
-
-// An inductor starts with a current, a capacitor with a voltage.
-fn first_row<N: Arithmetic>(kind: Kind, value: N, start: N) -> Row<N>
-    ensures { result ≡ first_row (valued N.ops N.mean N.nil) kind value start }
-{
-    let zero = N::zero();
-    let (current, voltage) = match kind {
-        Kind::Inductor => (start, zero),
-        Kind::Capacitor => (zero, start),
-        Kind::Resistor | Kind::VoltageSource | Kind::CurrentSource => (zero, zero),
-    };
-    Row {
-        value,
-        start,
+    let row = Row {
+        value: p.value,
+        start: p.start,
         current,
         voltage,
-    }
+    };
+    (Branch { kind, ends }, row)
 }
