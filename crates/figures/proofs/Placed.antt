@@ -1,5 +1,5 @@
 -- The answer at a placed branch of a sheet with 32 rows. Assumes nothing.
-use Rattle.std.proofs.Common.{◌≡◌, ℕ, ◌≤◌, Bool, true, false, not, eqb, ltb, is_some, Some, None, Option, sym, refl, ap, ◌∙◌, true≢false, le-ltb, eq-eqb}
+use Rattle.std.proofs.Common.{◌≡◌, ℕ, ◌≤◌, Bool, true, not, ltb, is_some, Some, None, Option, sym, refl, ap, ◌∙◌, true≢false, le-ltb, eq-eqb}
 use Rattle.sheet.specs.declared.branch.Branch.{Branch}
 use Rattle.sheet.specs.Calls.{on_place, present}
 use Rattle.sheet.specs.Refusals.{Answer, refuse, after}

@@ -1,5 +1,5 @@
 -- The reading that a float has, from the code's tests on the rounded float. Assumes nothing.
-use Rattle.std.proofs.Common.{◌≡◌, ℕ, suc, ◌+◌, ◌-◌, ◌*◌, ◌/◌, ◌%◌, ◌^◌, ◌<◌, ◌≤◌, min, Bool, true, false, cond, not, T, ltb, leb, ℤ, pos, neg_ℤ, sym, refl, ap, ◌∙◌, subst, true≢false, mod-lt, mul_assoc, div-add-mod', mul-one, mul-div_cancel, mul_left_comm, arith, le-ltb, lt-ltb, le-leb}
+use Rattle.std.proofs.Common.{◌≡◌, ℕ, ◌+◌, ◌-◌, ◌*◌, ◌/◌, ◌^◌, ◌<◌, ◌≤◌, min, Bool, true, false, cond, T, pos, neg_ℤ, sym, refl, ap, ◌∙◌, subst, true≢false, mod-lt, mul_assoc, div-add-mod', mul-one, mul-div_cancel, mul_left_comm, arith, lt-ltb, le-leb}
 use native.Mathlib.Decide.{dec_le}
 use borrow.Author.Tests.{lt-leb}
 use lib.Ieee.{Float, nan, inf, fin, binary64, up, down, round, neg, lt, le, to_signed}
@@ -10,7 +10,7 @@ use lib.Ieee.Order.{round_mono}
 use Rattle.std.specs.Float.{round_with, float_with_sign}
 use Rattle.std.specs.Float.Order.{lt_at, lt_irrefl, lt_of_lt_of_le, le_trans, not_above_negative}
 use Rattle.std.proofs.num.Values.{neg-round}
-use Rattle.sheet.specs.Refusals.{Answer, granted, refused, refuse}
+use Rattle.sheet.specs.Refusals.{granted, refuse}
 use Rattle.figures.specs.Readings.{nearest_whole, Nearest, signed, out_of_range, in_range, reading_of, Reads}
 
 -- ---- the rule as two bounds

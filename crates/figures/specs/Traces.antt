@@ -12,7 +12,7 @@
 -- Sums         a trace sums up a list of granted voltages
 -- after_all    the trace after a list of takings
 -- granted_of   the voltages of a list of takings that were granted
-use Rattle.std.specs.Prelude.{◌≡◌, ℕ, ◌+◌, ◌-◌, ◌<◌, Bool, cond, not, T, List, [], ◌∷◌, ◌++◌, length, ◌==◌, nat_le, slice_index_or, Float}
+use Rattle.std.specs.Prelude.{◌≡◌, ℕ, ◌+◌, ◌-◌, ◌<◌, cond, not, T, List, [], ◌∷◌, ◌++◌, length, ◌==◌, nat_le, slice_index_or, Float}
 use Rattle.std.specs.Float.Ieee.{lt, le}
 use Rattle.std.specs.Float.{float_is_finite}
 use Rattle.sheet.specs.Refusals.{Answer, granted, refused, refuse, Verdict, verdict_of}

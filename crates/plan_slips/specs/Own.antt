@@ -8,7 +8,7 @@ use Rattle.std.specs.Prelude.{◌≡◌, ℕ, zero, suc, List, [], ◌∷◌, �
 use Rattle.sheet.specs.declared.plan.Plan.{Plan}
 use Rattle.sheet.specs.declared.refusal.Refusal.{Refusal}
 use Rattle.sheet.specs.declared.refusal.Shown.{Shown}
-use Rattle.sheet.specs.Refusals.{Answer, granted, refused, told, Told}
+use Rattle.sheet.specs.Refusals.{granted, refused, told, Told}
 use Rattle.slips.specs.declared.row.SlipRow.{SlipRow}
 use Rattle.slips.specs.Entries.{entries_of}
 use Rattle.slips.specs.Writing.{blanked, slip_answer, Past, ReadsBack}

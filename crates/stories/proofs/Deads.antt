@@ -9,7 +9,6 @@ use Rattle.sheet.specs.declared.row.Row.{Row}
 use Rattle.graphs.specs.Graph.{Set, ◌∈◌, Spans, LoopAlong, Sign, plus, none, minus}
 use Rattle.graphs.specs.Cuts.{just_one, loop_row, incidence}
 use Rattle.graphs.specs.Greedy.{up_to, reached, LateCut}
-use Rattle.graphs.specs.Groups
 use Rattle.graphs.specs.Groups.{times}
 use Rattle.graphs.proofs.Joint.{theory}
 use Rattle.graphs.proofs.Sets.{out}

@@ -1,4 +1,4 @@
-use Rattle.std.proofs.Common.{◌≡◌, Some, None, ap, ◌∙◌, arith}
+use Rattle.std.proofs.Common.{Some, None, arith}
 use Rattle.plan_slips.proofs.Adding.{link_row, no_refusal, one_more, none_more}
 use Rattle.plan_slips.proofs.add_loop.Goals as goal
 

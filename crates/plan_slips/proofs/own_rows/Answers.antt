@@ -1,4 +1,4 @@
-use Rattle.std.proofs.Common.{◌≡◌, ◌++◌, take, refl, ap, ◌∙◌, arith}
+use Rattle.std.proofs.Common.{◌≡◌, ◌++◌, refl, ap, ◌∙◌, arith}
 use Rattle.topology.specs.Trees.{loop_of}
 use Rattle.plan_slips.specs.Own.{own_rows, row_of}
 use Rattle.plan_slips.proofs.Adding.{own_more}

@@ -1,7 +1,7 @@
-use Rattle.std.proofs.Common.{◌≡◌, true, false, ℤ, sym, refl, ap, ◌∙◌, subst, w32, to_z, of_z, rules}
+use Rattle.std.proofs.Common.{◌≡◌, true, false, sym, refl, ap, ◌∙◌, subst, w32, to_z, of_z, rules}
 use lib.Ieee.{Float, binary64, of_bits, lt, mul, to_signed}
 use Rattle.std.specs.Float.{round_with, float_with_sign}
-use Rattle.sheet.specs.Refusals.{Answer, granted}
+use Rattle.sheet.specs.Refusals.{granted}
 use Rattle.figures.specs.Readings.{thousand, thousandths, nearest_whole, reading_of, Reads, out_of_range}
 use Rattle.figures.proofs.Rounding.{billion, reads_in, reads_out, reads_is}
 use Rattle.figures.proofs.readings.reading_of.Goals as goal

@@ -1,6 +1,5 @@
 use Rattle.std.proofs.Common.{sym, subst, rules}
 use Rattle.sheet.specs.Refusals.{pass}
-use Rattle.figures.specs.declared.trace.Trace.{Trace}
 use Rattle.figures.specs.Traces.{Took, taken, more_granted, Sums}
 use Rattle.figures.proofs.Summing.{sums_step}
 use Rattle.figures.proofs.trace.Trace.take.Goals as goal
