@@ -10,22 +10,22 @@ use Rattle.whole_key.proofs.Stepping.{blank_begun, float_state}
 use Rattle.whole_key.proofs.push_key.Goals as goal
 
 pub returns-then-input-gt-LONGEST : goal.returns-then-input-gt-LONGEST
-returns-then-input-gt-LONGEST c = adds_same _ _ _ _ _ (ap text_of (sym (long_key _ c.if-input-gt-LONGEST.true))) c.push-refusal.ensures
+returns-then-input-gt-LONGEST c = adds_same _ _ _ _ _ (ap text_of (sym (long_key _ c.if-input-gt-LONGEST.true))) c.push_refusal.ensures
 
 pub returns-in-Ok : goal.returns-in-Ok
 returns-in-Ok c =
     let input = c.args.input.now in
     adds_same _ _ _ _ _
     (ap (λ st. text_of (or_fault (circuit_lines input) st))
-    (sym (float_state _ _ _) ∙ c.in-Ok.ensures.reads ∙ ap (cards_read binary64_ops input) (blank_begun binary64_ops _ _ c.empty-plan.ensures c.fresh-rows-rows.ensures))
+    (sym (float_state _ _ _) ∙ c.in-Ok.ensures.reads ∙ ap (cards_read binary64_ops input) (blank_begun binary64_ops _ _ c.empty-plan.ensures c.fresh_rows-rows.ensures))
     ∙ ap text_of (sym (short_key input c.if-input-gt-LONGEST.false)))
-    c.push-circuit.ensures
+    c.push_circuit.ensures
 
 pub returns-in-Err : goal.returns-in-Err
 returns-in-Err c =
     let input = c.args.input.now in
     adds_same _ _ _ _ _
     (ap (λ st. text_of (or_fault (circuit_lines input) st))
-    (c.in-Err.ensures.reads ∙ ap (cards_read binary64_ops input) (blank_begun binary64_ops _ _ c.empty-plan.ensures c.fresh-rows-rows.ensures))
+    (c.in-Err.ensures.reads ∙ ap (cards_read binary64_ops input) (blank_begun binary64_ops _ _ c.empty-plan.ensures c.fresh_rows-rows.ensures))
     ∙ ap text_of (sym (short_key input c.if-input-gt-LONGEST.false)))
-    c.push-fault.ensures
+    c.push_fault.ensures

@@ -13,10 +13,10 @@ returns c =
     (line_more a _ _ n (decimal (means c.args.fault.refusal).number ∷ codes "line" ∷ []) (decimal c.args.fault.line ∷ [])
     (line_more a _ _ n (decimal (means c.args.fault.refusal).number ∷ []) (codes "line" ∷ [])
     (line_more a _ _ n [] (decimal (means c.args.fault.refusal).number ∷ [])
-    (line_begun a _ n c.in-ok-push-str.ensures.bytes)
-    (word_is decimal _ _ (string_bytes c.push-str.new.self) _ c.number.ensures c.in-ok-push-number.ensures))
-    (word_pushed (string_bytes c.push-number.new.text) _ (codes "line") c.in-ok-push-str-2.ensures.bytes))
-    c.in-ok-push-number-2.ensures)
-    (word_pushed (string_bytes c.push-number-2.new.text) _ (codes "byte") c.in-ok-push-str-3.ensures.bytes))
-    c.in-ok-push-number-3.ensures)
-    c.push-str-4.ensures.bytes
+    (line_begun a _ n c.in_ok-push_str.ensures.bytes)
+    (word_is decimal _ _ (string_bytes c.push_str.new.self) _ c.number.ensures c.in_ok-push_number.ensures))
+    (word_pushed (string_bytes c.push_number.new.text) _ (codes "line") c.in_ok-push_str-2.ensures.bytes))
+    c.in_ok-push_number-2.ensures)
+    (word_pushed (string_bytes c.push_number-2.new.text) _ (codes "byte") c.in_ok-push_str-3.ensures.bytes))
+    c.in_ok-push_number-3.ensures)
+    c.push_str-4.ensures.bytes

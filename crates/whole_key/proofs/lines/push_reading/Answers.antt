@@ -10,7 +10,7 @@ returns c =
     line-ended _ a _ _ n (decimal c.args.k ∷ signed_decimal c.args.reading ∷ [])
     (line_more a _ _ n (decimal c.args.k ∷ []) (signed_decimal c.args.reading ∷ [])
     (line_more a _ _ n [] (decimal c.args.k ∷ [])
-    (line_begun a _ n c.in-ok-push-str.ensures.bytes)
-    c.in-ok-push-number.ensures)
-    (word_is signed_decimal _ _ (string_bytes c.push-number.new.text) _ (to_z-of_z c.ranges.reading) c.in-ok-push-whole.ensures))
-    c.push-str-2.ensures.bytes
+    (line_begun a _ n c.in_ok-push_str.ensures.bytes)
+    c.in_ok-push_number.ensures)
+    (word_is signed_decimal _ _ (string_bytes c.push_number.new.text) _ (to_z-of_z c.ranges.reading) c.in_ok-push_whole.ensures))
+    c.push_str-2.ensures.bytes

@@ -13,7 +13,7 @@ returns c =
     line-ended _ a _ _ n (decimal t.number ∷ shown_words t.words)
     (line_more a _ _ n (decimal t.number ∷ []) (shown_words t.words)
     (line_more a _ _ n [] (decimal t.number ∷ [])
-    (line_begun a _ n c.in-ok-push-str.ensures.bytes)
-    (word_is decimal _ _ (string_bytes c.push-str.new.self) _ c.number.ensures c.in-ok-push-number.ensures))
-    (subst (λ ws. string_bytes c.push-shown.new.text ≡ string_bytes c.push-number.new.text ++ spaced (shown_words ws)) c.shown.ensures c.in-ok-push-shown.ensures))
-    c.push-str-2.ensures.bytes
+    (line_begun a _ n c.in_ok-push_str.ensures.bytes)
+    (word_is decimal _ _ (string_bytes c.push_str.new.self) _ c.number.ensures c.in_ok-push_number.ensures))
+    (subst (λ ws. string_bytes c.push_shown.new.text ≡ string_bytes c.push_number.new.text ++ spaced (shown_words ws)) c.shown.ensures c.in_ok-push_shown.ensures))
+    c.push_str-2.ensures.bytes

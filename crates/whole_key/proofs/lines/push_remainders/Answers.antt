@@ -10,8 +10,8 @@ returns c =
     (line_more a _ _ n (decimal c.args.k ∷ decimal c.args.current ∷ []) (decimal c.args.voltage ∷ [])
     (line_more a _ _ n (decimal c.args.k ∷ []) (decimal c.args.current ∷ [])
     (line_more a _ _ n [] (decimal c.args.k ∷ [])
-    (line_begun a _ n c.in-ok-push-str.ensures.bytes)
-    c.in-ok-push-number.ensures)
-    c.in-ok-push-number-2.ensures)
-    c.in-ok-push-number-3.ensures)
-    c.push-str-2.ensures.bytes
+    (line_begun a _ n c.in_ok-push_str.ensures.bytes)
+    c.in_ok-push_number.ensures)
+    c.in_ok-push_number-2.ensures)
+    c.in_ok-push_number-3.ensures)
+    c.push_str-2.ensures.bytes

@@ -11,7 +11,7 @@ returns c =
     line-ended _ a _ _ n (decimal c.args.k ∷ listed (signed_words c.args.row) 32)
     (line_more a _ _ n (decimal c.args.k ∷ []) (listed (signed_words c.args.row) 32)
     (line_more a _ _ n [] (decimal c.args.k ∷ [])
-    (line_begun a _ n c.in-ok-push-str.ensures.bytes)
-    c.in-ok-push-number.ensures)
-    c.in-ok-push-signed-members.ensures)
-    c.push-str-2.ensures.bytes
+    (line_begun a _ n c.in_ok-push_str.ensures.bytes)
+    c.in_ok-push_number.ensures)
+    c.in_ok-push_signed_members.ensures)
+    c.push_str-2.ensures.bytes

@@ -10,6 +10,6 @@ returns c =
     let n = codes "tree" in
     line-ended _ a _ _ n (listed (member_words c.args.tree) 32)
     (line_more a _ _ n [] (listed (member_words c.args.tree) 32)
-    (line_begun a _ n c.in-ok-push-str.ensures.bytes)
-    c.in-ok-push-members.ensures)
-    c.push-str-2.ensures.bytes
+    (line_begun a _ n c.in_ok-push_str.ensures.bytes)
+    c.in_ok-push_members.ensures)
+    c.push_str-2.ensures.bytes

@@ -6,4 +6,4 @@ pub loop-k-init : goal.loop-k-init
 loop-k-init c = no_lines _ _
 
 pub loop-k-preserved : goal.loop-k-preserved
-loop-k-preserved c = more_lines (loop_lines c.args.plan.now) _ _ _ _ c.loop-k.invariant c.in-ok-push-loop.ensures
+loop-k-preserved c = more_lines (loop_lines c.args.plan.now) _ _ _ _ c.loop-k.invariant c.in_ok-push_loop.ensures

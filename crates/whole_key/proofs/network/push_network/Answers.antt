@@ -10,5 +10,5 @@ returns c =
     let p = c.args.plan.now in
     let w = c.args.tree in
     adds_then _ a _ _ (tree_line w ∷ listed (loop_lines p) 32) (listed (cut_lines p) 32)
-    (then_lines a _ _ (tree_line w ∷ []) (listed (loop_lines p) 32) c.in-ok-push-tree.ensures c.in-ok-push-loops.ensures)
-    c.push-cuts.ensures
+    (then_lines a _ _ (tree_line w ∷ []) (listed (loop_lines p) 32) c.in_ok-push_tree.ensures c.in_ok-push_loops.ensures)
+    c.push_cuts.ensures

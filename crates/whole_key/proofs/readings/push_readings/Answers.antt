@@ -6,8 +6,8 @@ use Rattle.whole_key.proofs.readings.push_readings.Goals as goal
 
 pub returns-in-Ok : goal.returns-in-Ok
 unfolding step_lines
-returns-in-Ok c = adds_same _ _ _ _ _ (ap (λ a. text_of (or_refused reading_lines a)) c.in-Ok.ensures) c.push-taken.ensures
+returns-in-Ok c = adds_same _ _ _ _ _ (ap (λ a. text_of (or_refused reading_lines a)) c.in-Ok.ensures) c.push_taken.ensures
 
 pub returns-in-Err : goal.returns-in-Err
 unfolding step_lines
-returns-in-Err c = adds_same _ _ _ _ _ (ap (λ a. text_of (or_refused reading_lines a)) c.in-Err.ensures) c.push-refusal.ensures
+returns-in-Err c = adds_same _ _ _ _ _ (ap (λ a. text_of (or_refused reading_lines a)) c.in-Err.ensures) c.push_refusal.ensures

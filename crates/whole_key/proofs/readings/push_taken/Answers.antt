@@ -7,4 +7,4 @@ pub loop-k-init : goal.loop-k-init
 loop-k-init c = no_lines _ _
 
 pub loop-k-preserved : goal.loop-k-preserved
-loop-k-preserved c = more_lines (λ k. reading_line k (get_or c.args.readings.now k None)) _ _ _ _ c.loop-k.invariant c.in-ok-push-reading-at.ensures
+loop-k-preserved c = more_lines (λ k. reading_line k (get_or c.args.readings.now k None)) _ _ _ _ c.loop-k.invariant c.in_ok-push_reading_at.ensures

@@ -5,13 +5,13 @@ use Rattle.whole_key.specs.Blocks.{readings_below}
 use Rattle.whole_key.proofs.Stepping.{float-passed, float-failed}
 use Rattle.whole_key.proofs.readings.stepped_readings.Goals as goal
 
-pub returns-in-err-step : goal.returns-in-err-step
-returns-in-err-step c =
-    let q = err_from_is_err_and c.from-residual.result c.from-residual.ensures.1 in
+pub returns-in_err-step : goal.returns-in_err-step
+returns-in_err-step c =
+    let q = err_from_is_err_and c.from_residual.result c.from_residual.ensures.1 in
     ap told q.1 ∙ ap (λ e. refused (means e)) q.2
-    ∙ ap (λ a. after a (λ t. readings_below t.plan t.rows 32)) (float-failed _ _ _ _ _ _ _ _ c.requires refl c.one.ensures.meaning c.in-err-step.ensures.does)
+    ∙ ap (λ a. after a (λ t. readings_below t.plan t.rows 32)) (float-failed _ _ _ _ _ _ _ _ c.requires refl c.one.ensures.meaning c.in_err-step.ensures.does)
 
 pub returns : goal.returns
 returns c =
     c.readings.ensures
-    ∙ ap (λ a. after a (λ t. readings_below t.plan t.rows 32)) (float-passed _ _ _ _ _ _ _ c.requires refl c.one.ensures.meaning c.in-ok-step.ensures.does)
+    ∙ ap (λ a. after a (λ t. readings_below t.plan t.rows 32)) (float-passed _ _ _ _ _ _ _ c.requires refl c.one.ensures.meaning c.in_ok-step.ensures.does)

@@ -11,11 +11,11 @@ returns-in-Some c =
     let k = c.args.k in
     adds_same _ _ _ _ _
     (ap text_of
-    (ap (λ i. remainders_line k i c.remainder-of-voltage.result ∷ []) c.remainder-of-current.ensures
-    ∙ ap (λ u. remainders_line k (residue c.in-Some.look.current).0 u ∷ []) c.remainder-of-voltage.ensures
+    (ap (λ i. remainders_line k i c.remainder_of-voltage.result ∷ []) c.remainder_of-current.ensures
+    ∙ ap (λ u. remainders_line k (residue c.in-Some.look.current).0 u ∷ []) c.remainder_of-voltage.ensures
     ∙ ap (look_line k) c.in-Some.ensures
     ∙ sym (seen_meant c.args.plan.now c.args.rows.now k)))
-    c.push-remainders.ensures
+    c.push_remainders.ensures
 
 pub returns-in-None : goal.returns-in-None
 returns-in-None c =

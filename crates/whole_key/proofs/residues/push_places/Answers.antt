@@ -12,4 +12,4 @@ loop-k-init c = no_lines _ _
 pub loop-k-preserved : goal.loop-k-preserved
 loop-k-preserved c =
     more_lines (λ k. remainder_line k (seen (residue 0) c.args.plan.now (map (meant_row residue) c.args.rows.now) k)) _ _ _ _
-    c.loop-k.invariant c.in-ok-push-place.ensures
+    c.loop-k.invariant c.in_ok-push_place.ensures

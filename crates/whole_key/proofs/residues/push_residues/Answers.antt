@@ -11,12 +11,12 @@ pub returns-in-Ok : goal.returns-in-Ok
 unfolding residue_lines
 returns-in-Ok c =
     adds_same _ _ _ _ _
-    (ap (λ a. text_of (or_fault residue_step_lines a)) (c.in-Ok.ensures.reads ∙ ap (cards_read residue_ops c.args.input.now) (blank_begun residue_ops _ _ c.empty-plan.ensures c.fresh-rows-rows.ensures)))
-    c.push-stepped.ensures
+    (ap (λ a. text_of (or_fault residue_step_lines a)) (c.in-Ok.ensures.reads ∙ ap (cards_read residue_ops c.args.input.now) (blank_begun residue_ops _ _ c.empty-plan.ensures c.fresh_rows-rows.ensures)))
+    c.push_stepped.ensures
 
 pub returns-in-Err : goal.returns-in-Err
 unfolding residue_lines
 returns-in-Err c =
     adds_same _ _ _ _ _
-    (ap (λ a. text_of (or_fault residue_step_lines a)) (c.in-Err.ensures.reads ∙ ap (cards_read residue_ops c.args.input.now) (blank_begun residue_ops _ _ c.empty-plan.ensures c.fresh-rows-rows.ensures)))
-    c.push-fault.ensures
+    (ap (λ a. text_of (or_fault residue_step_lines a)) (c.in-Err.ensures.reads ∙ ap (cards_read residue_ops c.args.input.now) (blank_begun residue_ops _ _ c.empty-plan.ensures c.fresh_rows-rows.ensures)))
+    c.push_fault.ensures

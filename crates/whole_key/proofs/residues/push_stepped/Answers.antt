@@ -9,10 +9,10 @@ pub returns-in-Ok : goal.returns-in-Ok
 returns-in-Ok c =
     adds_same _ _ _ _ _
     (ap (λ a. text_of (or_refused remainder_lines a)) (step-passed _ _ _ _ _ _ _ _ _ c.requires refl c.one.ensures.meaning c.in-Ok.ensures.does))
-    c.push-places.ensures
+    c.push_places.ensures
 
 pub returns-in-Err : goal.returns-in-Err
 returns-in-Err c =
     adds_same _ _ _ _ _
     (ap (λ a. text_of (or_refused remainder_lines a)) (step-failed _ _ _ _ _ _ _ _ _ _ c.requires refl c.one.ensures.meaning c.in-Err.ensures.does))
-    c.push-refusal.ensures
+    c.push_refusal.ensures

@@ -6,4 +6,4 @@ pub loop-k-init : goal.loop-k-init
 loop-k-init c = no_words _ _
 
 pub loop-k-preserved : goal.loop-k-preserved
-loop-k-preserved c = more_words (member_words c.args.word) _ _ _ _ c.loop-k.invariant c.in-ok-push-member.ensures
+loop-k-preserved c = more_words (member_words c.args.word) _ _ _ _ c.loop-k.invariant c.in_ok-push_member.ensures

@@ -6,4 +6,4 @@ pub loop-k-init : goal.loop-k-init
 loop-k-init c = no_words _ _
 
 pub loop-k-preserved : goal.loop-k-preserved
-loop-k-preserved c = more_words (signed_words c.args.shown) _ _ _ _ c.loop-k.invariant c.in-ok-push-signed-member.ensures
+loop-k-preserved c = more_words (signed_words c.args.shown) _ _ _ _ c.loop-k.invariant c.in_ok-push_signed_member.ensures

@@ -5,5 +5,5 @@ use Rattle.whole_key.proofs.words.push_whole.Goals as goal
 
 pub returns : goal.returns
 returns c =
-    pushed_on _ _ _ _ _ c.push-str.ensures.bytes
-    (c.as-str.ensures.value ∙ c.in-ok-word.ensures.ok ∙ ap (λ z. 32 ∷ signed_decimal z) (to_z-of_z c.ranges.z) ∙ one_word _)
+    pushed_on _ _ _ _ _ c.push_str.ensures.bytes
+    (c.as_str.ensures.value ∙ c.in_ok-word.ensures.ok ∙ ap (λ z. 32 ∷ signed_decimal z) (to_z-of_z c.ranges.z) ∙ one_word _)
