@@ -1,7 +1,7 @@
 -- What the code of a step's results is compared with. Assumes nothing.
 --
 -- all             every number
--- in_use c         the fixed and the feeding branches
+-- in_use c        the fixed and the feeding branches
 -- found o w n     the value found for each place among the unknowns: the right side of its row in the solved area w
 -- link_voltage    the tree's voltages by the signs of their cuts
 -- Filled S f n    a list of 32 that has f k at each place k below n that is in S

@@ -1,7 +1,7 @@
 -- What the code of an assembly reads its parts from. Assumes nothing.
 --
 -- nothing         a row without members
--- cut_at f t       the row that a frame has for the tree branch t
+-- cut_at f t      the row that a frame has for the tree branch t
 -- gathered        the values x k of the members k of S, each taken by its sign, to a, lower numbers first
 -- scaled          the same with x k × y
 -- entered         the row of the unknown t without its right side

@@ -6,20 +6,20 @@
 -- meant_card   a line's placement, where it has one, with its values taken by what they mean
 -- wanted       wrong where nothing is there
 -- barred       wrong where the test holds
--- byte_of       a field's first byte, counted from 1
--- is_empty      no byte at all
+-- byte_of      a field's first byte, counted from 1
+-- is_empty     no byte at all
 -- counted      a branch or node number
 -- whole_in     a whole number in an arithmetic
 -- amount       what a numeral is in an arithmetic: a quotient, negated after a minus unless its top is 0
 -- measured     the same, unless its denominator may not be divided by
--- value_of      the value that a field holds
+-- value_of     the value that a field holds
 -- has_start    the kinds that may have a start: inductors and capacitors
--- start_of      a start: zero where none is written
+-- start_of     a start: zero where none is written
 -- over_of      the field that would be one too many
 -- card_of      a card of that kind: number, tail, head, value, start, and no field left over
 -- lettered     a line whose first field is a letter and a number
 -- opened       a line by the text of its first field
--- line_of       a line: nothing where it is skipped, else its card
+-- line_of      a line: nothing where it is skipped, else its card
 use Rattle.std.specs.Prelude.{ℕ, suc, Bool, true, false, cond, not, ◌&&◌, List, [], ◌∷◌, Some, None, Ok, Err, Option, Result, ◌==◌}
 use Rattle.arithmetic.specs.Ops.{Ops, capped, may_divide}
 use Rattle.sheet.specs.declared.kind.Kind.{Kind}

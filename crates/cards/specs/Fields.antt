@@ -5,7 +5,7 @@
 -- words         the fields of a line: its pieces between bytes 32 that are not empty
 -- words_from    the same of a line's rest, whose first byte has that place
 -- missing       a field that is not there: empty, at the line's end
--- word_at        the field of that number, or a missing one
+-- word_at       the field of that number, or a missing one
 -- word_end      the place just past a field
 -- seen          the word that a field of the program is
 -- First         a field is the first of a line from some place on, and the others are those past it

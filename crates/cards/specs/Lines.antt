@@ -1,6 +1,6 @@
 -- The lines that a reader has before it. Assumes nothing.
 --
--- lines_from    the lines of a text from a place on; none past its end
+-- lines_from   the lines of a text from a place on; none past its end
 -- lines_left   the lines that a reader has yet to read
 -- Took         a reader took a line: that was the first, and the others are left
 use Rattle.std.specs.Prelude.{◌≡◌, ℕ, suc, cond, List, [], ◌∷◌, length, drop, nat_le}

@@ -14,8 +14,8 @@
 -- whole           the digits of a branch or node number, over 1
 -- value_text      a value's text: signed on a source, else a ratio
 -- figured         what the text of a field may be, by what the field is for
--- word_of          the field that a token borrows
--- is_whole         a token of a number or a node
+-- word_of         the field that a token borrows
+-- is_whole        a token of a number or a node
 use Rattle.std.specs.Prelude.{ℕ, suc, ◌+◌, ◌-◌, ◌*◌, Bool, true, false, cond, ◌&&◌, List, [], ◌∷◌, length, take, drop, Some, None, Option, ◌==◌, nat_le, nat_lt}
 use Rattle.sheet.specs.declared.kind.Kind.{Kind}
 use Rattle.sheet.specs.Kinds.{is_source}

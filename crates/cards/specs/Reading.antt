@@ -4,7 +4,7 @@
 -- named        what a fault of the program says
 -- report       what a result of the program says: nothing, or a fault
 -- State M      how far it came: nothing wrong or a fault, and the sheet with rows by meaning
--- state_of      the state that the program is in
+-- state_of     the state that the program is in
 -- onward       what follows where nothing is wrong yet; onward_by the same by the fault
 -- settled      what the sheet answered to the card of the line of that number
 -- laid         what is on the line of that number, placed on the sheet

@@ -1,21 +1,21 @@
 -- What a line of cards must be in an arithmetic, and what is wrong with it if it is not. Assumes nothing.
 --
--- Means          a text is a numeral whose denominator may be divided by, and that is its value
--- Starts         what follows the value: nothing, or on an inductor or a capacitor one start
--- IsCard         a line is this card
--- Starred        a line whose first field begins with a star
--- Skipped        a line without fields, or whose first byte that is no space is a star
--- Fails          a thing does not hold, and this is the fault
--- Check          one of the things that are asked of a line: when it holds, and which fault it is when not
--- FirstWrong     the first of the checks that fails, with its fault
--- number_check   a field is a branch or node number; 22
--- value_check    a field is a numeral, 22, that means something in this arithmetic, 23
+-- Means           a text is a numeral whose denominator may be divided by, and that is its value
+-- Starts          what follows the value: nothing, or on an inductor or a capacitor one start
+-- IsCard          a line is this card
+-- Starred         a line whose first field begins with a star
+-- Skipped         a line without fields, or whose first byte that is no space is a star
+-- Fails           a thing does not hold, and this is the fault
+-- Check           one of the things that are asked of a line: when it holds, and which fault it is when not
+-- FirstWrong      the first of the checks that fails, with its fault
+-- number_check    a field is a branch or node number; 22
+-- value_check     a field is a numeral, 22, that means something in this arithmetic, 23
 -- start_check_by  the same of a start, where one stands
--- over_check     a field is not there; 24
--- card_checks    what is asked of a card, in order
--- asked          the fields by number, a missing one at the line's end
--- WrongFor       the letter is none, 21, or it is one and a check of the card fails
--- WrongLine      a line that is neither skipped nor a card: its first fault
+-- over_check      a field is not there; 24
+-- card_checks     what is asked of a card, in order
+-- asked           the fields by number, a missing one at the line's end
+-- WrongFor        the letter is none, 21, or it is one and a check of the card fails
+-- WrongLine       a line that is neither skipped nor a card: its first fault
 use Rattle.std.specs.Prelude.{◌≡◌, ℕ, suc, Bool, true, false, not, ◌&&◌, ◌⊎◌, List, [], ◌∷◌, slice_index_or}
 use Rattle.arithmetic.specs.Ops.{Ops, may_divide}
 use Rattle.sheet.specs.declared.kind.Kind.{Kind}

@@ -18,7 +18,7 @@ fn place_line<N: Arithmetic>(
     rows: &mut [Row<N>],
 ) -> Result<(), Fault>
     requires { N.mean zero ≡ N.ops.nought }
-    ensures { state_of N.mean result plan.exit.now rows.new ≡ line_done N.ops line.entry.number line.entry.text.now (meant_sheet N.mean (record { plan = plan.entry.now; rows = rows.old })) }
+    ensures { state_of N.mean result plan.new rows.new ≡ line_done N.ops line.entry.number line.entry.text.now (meant_sheet N.mean (record { plan = plan.old; rows = rows.old })) }
 {
     let number = line.number;
     let card = match read_line(line.text, zero) {
@@ -53,9 +53,9 @@ pub fn read_cards<N: Arithmetic>(
     plan: &mut Plan,
     rows: &mut [Row<N>],
 ) -> Result<(), Fault>
-    ensures accepts { Accepts N.ops input.now (length rows.old) (report result) (meant_sheet N.mean (record { plan = plan.exit.now; rows = rows.new })) }
-    ensures blames { Blames N.ops input.now (length rows.old) (meant_sheet N.mean (record { plan = plan.entry.now; rows = rows.old })) (report result) (meant_sheet N.mean (record { plan = plan.exit.now; rows = rows.new })) }
-    ensures reads { state_of N.mean result plan.exit.now rows.new ≡ cards_read N.ops input.now (meant_sheet N.mean (record { plan = plan.entry.now; rows = rows.old })) }
+    ensures accepts { Accepts N.ops input.now (length rows.old) (report result) (meant_sheet N.mean (record { plan = plan.new; rows = rows.new })) }
+    ensures blames { Blames N.ops input.now (length rows.old) (meant_sheet N.mean (record { plan = plan.old; rows = rows.old })) (report result) (meant_sheet N.mean (record { plan = plan.new; rows = rows.new })) }
+    ensures reads { state_of N.mean result plan.new rows.new ≡ cards_read N.ops input.now (meant_sheet N.mean (record { plan = plan.old; rows = rows.old })) }
 {
     let zero = N::zero();
     if let Err(refusal) = plan.blank(rows) {

@@ -6,8 +6,8 @@
 -- Nearest        n is the whole number nearest to a / c, the upper one at a half: the rule as two bounds
 -- signed         a size with its sign
 -- out_of_range   18
--- inRange        the reading of a size, 18 from 10 ^ 9 on
--- reading_of      the reading of a float
+-- in_range       the reading of a size, 18 from 10 ^ 9 on
+-- reading_of     the reading of a float
 -- Reads          the reading of a float, by bounds on its exact value
 -- reading_at     the answer at a place of a sheet
 use Rattle.std.specs.Prelude.{◌≡◌, ℕ, ◌+◌, ◌*◌, ◌/◌, ◌<◌, ◌≤◌, Bool, true, false, List, [], length, get_or, ℤ, pos, neg_ℤ, nat_le, Float}

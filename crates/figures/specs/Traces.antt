@@ -1,17 +1,17 @@
 -- Traces: the least, greatest and last voltage taken, and how many. Assumes nothing.
 --
--- fresh_trace  all zero
--- lesser       the new voltage where it is strictly below the old, else the old
--- greater      the new voltage where it is strictly above the old, else the old
--- taken        the answer to a taking, with the trace after it
--- left         the trace after an answer: a refused taking leaves it as it was
+-- fresh_trace   all zero
+-- lesser        the new voltage where it is strictly below the old, else the old
+-- greater       the new voltage where it is strictly above the old, else the old
+-- taken         the answer to a taking, with the trace after it
+-- left          the trace after an answer: a refused taking leaves it as it was
 -- more_granted  the voltages granted, one more where the answer is granted
--- Took         a call takes as the answer says
--- WasTaken     a float stands in a list
--- Extremes     least and greatest bound a list and stand in it, and last is its last
--- Sums         a trace sums up a list of granted voltages
--- after_all    the trace after a list of takings
--- granted_of   the voltages of a list of takings that were granted
+-- Took          a call takes as the answer says
+-- WasTaken      a float stands in a list
+-- Extremes      least and greatest bound a list and stand in it, and last is its last
+-- Sums          a trace sums up a list of granted voltages
+-- after_all     the trace after a list of takings
+-- granted_of    the voltages of a list of takings that were granted
 use Rattle.std.specs.Prelude.{◌≡◌, ℕ, ◌+◌, ◌-◌, ◌<◌, cond, not, T, List, [], ◌∷◌, ◌++◌, length, ◌==◌, nat_le, slice_index_or, Float}
 use Rattle.std.specs.Float.Ieee.{lt, le}
 use Rattle.std.specs.Float.{float_is_finite}

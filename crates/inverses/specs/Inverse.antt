@@ -1,9 +1,9 @@
 -- The inverse of a number modulo 8,191, a prime: its power 8,189. Assumes nothing.
 --
--- times        the product modulo 8,191
--- ones x k     x to the power 2 ^ k - 1
+-- times         the product modulo 8,191
+-- ones x k      x to the power 2 ^ k - 1
 -- inverse_of x  x to the power 8,189, which is 1 + 4 * (2 ^ 11 - 1); 0 at 0
--- IsInverse    what is promised of an answered inverse: which number it is, and that the product with it leaves 1
+-- IsInverse     what is promised of an answered inverse: which number it is, and that the product with it leaves 1
 use Rattle.std.specs.Prelude.{◌≡◌, ℕ, zero, suc, ◌*◌, ◌%◌, ◌<◌}
 
 abbrev pub times : ℕ → ℕ → ℕ

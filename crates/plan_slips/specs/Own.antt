@@ -1,6 +1,6 @@
 -- The slip of a plan: its tree, and the loop row of every link, ascending. Assumes nothing.
 --
--- row_of      the slip row of that number, where there is a loop row
+-- row_of     the slip row of that number, where there is a loop row
 -- own_rows   the slip rows of the links below k, over the tree w
 -- OwnSlip    12 and 13 leave the area alone; else the area holds the slip of the tree and all these rows and gives it
 --            back, or it is blank and the slip is refused

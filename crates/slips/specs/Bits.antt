@@ -1,11 +1,11 @@
 -- Bits in bytes: how a bit is put into an area, and which bits a number has. Assumes nothing.
 --
--- put_bit      the area with a bit put in at a place; place 0 is the most significant bit of byte 0
+-- put_bit     the area with a bit put in at a place; place 0 is the most significant bit of byte 0
 -- put_bits    the area with bits put in from a place on
 -- high        the last n bits of a word, most significant first
 -- low         the last n bits of a word, least significant first
--- word_at      the number that n bits of a list make from a place on, most significant first; past the end the bits are 0
--- byte_at      byte k of packed bits
+-- word_at     the number that n bits of a list make from a place on, most significant first; past the end the bits are 0
+-- byte_at     byte k of packed bits
 -- zeroed      the area with its first n bytes zero
 use Rattle.std.specs.Prelude.{ℕ, zero, suc, ◌+◌, ◌-◌, ◌*◌, ◌/◌, ◌%◌, ◌^◌, List, [], ◌∷◌, bit_or, slice_index, slice_set}
 

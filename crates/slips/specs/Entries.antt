@@ -2,12 +2,12 @@
 --
 -- code_of       the code of an entry: 0 for 0, 1 for +1, 3 for -1
 -- entry_of      the entry of a code
--- is_entry     -1, 0 or +1
--- are_entries  every one of a list is an entry
+-- is_entry      -1, 0 or +1
+-- are_entries   every one of a list is an entry
 -- entries_bits  two bits an entry
--- is_in        a place is in a word
+-- is_in         a place is in a word
 -- entry_at      the entry at a place of a row of two words: the members, and those against
--- entries_of   the 32 entries of such a row
+-- entries_of    the 32 entries of such a row
 use Rattle.std.specs.Prelude.{ℕ, ◌/◌, ◌%◌, ◌^◌, Bool, true, cond, ◌&&◌, List, [], ◌∷◌, ◌++◌, map, ℤ, pos, negsuc, ◌==◌, nat_lt}
 use Rattle.std.specs.List.{range_with_len}
 use Rattle.slips.specs.Bits.{high}

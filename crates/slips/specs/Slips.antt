@@ -1,18 +1,18 @@
 -- Slips: a tree and rows, the bits that they are, and how they are read back. Assumes nothing.
 --
--- Slip         the tree's word, and the rows in order
+-- Slip          the tree's word, and the rows in order
 -- is_row        the number is one that may come next and at most 31, and there are 32 entries
--- row_bits     a row: five bits of its number, then its entries
--- rows_bits    rows in order
--- slip_bits    a slip: its 32 tree bits, place 0 first, then its rows
+-- row_bits      a row: five bits of its number, then its entries
+-- rows_bits     rows in order
+-- slip_bits     a slip: its 32 tree bits, place 0 first, then its rows
 -- next_of       the least number that may come after those rows
--- Rising       each row is a row, above the one before; the first has at least that number
--- Proper       the tree is a word of 32 bits, and the rows rise
--- unpacked     the bits of bytes
--- from_low     the number of bits, least significant first
+-- Rising        each row is a row, above the one before; the first has at least that number
+-- Proper        the tree is a word of 32 bits, and the rows rise
+-- unpacked      the bits of bytes
+-- from_low      the number of bits, least significant first
 -- read_entries  n entries from the front of bits
--- read_rows    n rows from the front of bits
--- read_back    the slip that those bytes are: their count says how many rows there are
+-- read_rows     n rows from the front of bits
+-- read_back     the slip that those bytes are: their count says how many rows there are
 use Rattle.std.specs.Prelude.{ℕ, zero, suc, ◌+◌, ◌-◌, ◌*◌, ◌/◌, ◌^◌, ◌<◌, Bool, ◌&&◌, T, List, [], ◌∷◌, ◌++◌, length, take, drop, ℤ, ◌==◌, nat_le, nat_lt}
 use Rattle.slips.specs.declared.row.SlipRow.{SlipRow}
 use Rattle.slips.specs.Bits.{high, low, word_at}

@@ -13,7 +13,7 @@
 -- Past         the bytes from 280 on are the same
 -- Packed       the area's first 280 bytes are those bits, and zero bits after
 -- Holds        the writer holds that slip and nothing else
--- with_row      the slip with one more row, if the answer is granted
+-- with_row     the slip with one more row, if the answer is granted
 -- ReadsBack    the bytes used are the slip's, and the slip can be read back from them
 -- ToldApart    no two slips share both the bytes used and their count
 use Rattle.std.specs.Prelude.{◌≡◌, ℕ, ◌+◌, ◌*◌, ◌/◌, ◌<◌, ◌≤◌, cond, not, List, [], ◌∷◌, ◌++◌, length, take, ℤ, nat_lt, slice_index}

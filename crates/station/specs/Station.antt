@@ -2,7 +2,7 @@
 --
 -- no_memory    the mark of want of memory, the largest number of 64 bits
 -- in_front     a buffer with a text at its front, where it is long enough for it
--- mark_of       the number of the refusal that ends the key of the cards before its steps; 0 if there is none
+-- mark_of      the number of the refusal that ends the key of the cards before its steps; 0 if there is none
 -- Keyed        the key of the cards: its length, and the buffer with it; or want of memory and the buffer as it was
 use Rattle.std.specs.Prelude.{◌≡◌, ℕ, cond, ◌⊎◌, List, ◌++◌, length, drop, Some, None, Option, nat_le, nat_lt, Float}
 use Rattle.arithmetic.specs.Binary64.{binary64_ops}

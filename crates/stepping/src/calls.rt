@@ -31,7 +31,7 @@ fn solve_system<N: Arithmetic>(
     area: &mut [N],
 ) -> Option<u32>
     requires { (length area.old ≡ 304) × ((length rows.now ≡ 32) × ((tree_of plan.now ≡ granted frame.now.tree) × (FrameOf plan.now frame.now.tree frame.now))) }
-    ensures { Worked N.ops (N.mean h) (record { plan = plan.entry.now; rows = map (meant_row N.mean) rows.now }) result (map N.mean area.new) }
+    ensures { Worked N.ops (N.mean h) (record { plan = plan.now; rows = map (meant_row N.mean) rows.now }) result (map N.mean area.new) }
 {
     clear(area);
     store_companions(plan, rows, h, area);
@@ -166,7 +166,7 @@ pub fn step<N: Arithmetic>(
     work: &mut [N],
 ) -> Result<(), Refusal>
     ensures does { StepDoes N.ops N.mean N.nil plan.now rows.old h work.old (verdict result) rows.new work.new }
-    ensures story { (cs : List (StoryCall N.Meaning)) → run N.ops cs ≡ meant_sheet N.mean (record { plan = plan.entry.now; rows = rows.old }) → Continues N.ops N.exact cs (length rows.old) (length work.old) (N.mean h) (meant_sheet N.mean (record { plan = plan.entry.now; rows = rows.old })) (verdict result) (meant_sheet N.mean (record { plan = plan.entry.now; rows = rows.new })) }
+    ensures story { (cs : List (StoryCall N.Meaning)) → run N.ops cs ≡ meant_sheet N.mean (record { plan = plan.now; rows = rows.old }) → Continues N.ops N.exact cs (length rows.old) (length work.old) (N.mean h) (meant_sheet N.mean (record { plan = plan.now; rows = rows.old })) (verdict result) (meant_sheet N.mean (record { plan = plan.now; rows = rows.new })) }
     ensures stories { T N.exact → TheoremOfStories N.ops }
     ensures trees { TreesOfStories N.ops }
 {

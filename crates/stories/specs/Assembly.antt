@@ -4,14 +4,14 @@
 -- taken s x a        a with x added at plus, subtracted at minus, as it is at none
 -- agree s r          plus where both signs are there and equal, minus where they are opposite, else none
 -- Parts M            what the system is made of
--- entry_of t r        the matrix entry of the unknowns t and r: the conductances in both their cuts
+-- entry_of t r       the matrix entry of the unknowns t and r: the conductances in both their cuts
 -- fed t              the feeds over the cut of t, subtracted at plus
 -- levelled t v       and then, for the fixed branch v, conductance × its level over both cuts
--- right_of t          the right side of t: fed, then levelled by each fixed branch in turn
+-- right_of t         the right side of t: fed, then levelled by each fixed branch in turn
 -- size               how many unknowns there are; the unknown t has row and column count unknown t
 -- blank_area         304 zeros
 -- with_companions    conductance and feed of each resistor, inductor and capacitor k at the places k and 32 + k
--- with_row            the row of t with its right side
+-- with_row           the row of t with its right side
 -- assembled          the whole area: all rows, lower unknowns first
 use Rattle.std.specs.Prelude.{ℕ, zero, suc, ◌+◌, cond, List, replicate, slice_set}
 use Rattle.arithmetic.specs.Ops.{Ops}

@@ -1,12 +1,12 @@
 -- A plan as a graph, the kinds of its branches and the tree that is kept of it. Assumes nothing.
 --
 -- kind_class     the class of a kind: 0 to 4 for voltage source, capacitor, resistor, inductor, current source
--- graph_of p      tail and head of each placed branch; an absent one is drawn from node 0 to node 0
+-- graph_of p     tail and head of each placed branch; an absent one is drawn from node 0 to node 0
 -- placed p       the places, 0 to 31, that hold a branch
--- class_at p      the class of the branch at a place; 5 where there is none
--- kind_at p       the kind of the branch at a place, 0 to 31, if there is one
+-- class_at p     the class of the branch at a place; 5 where there is none
+-- kind_at p      the kind of the branch at a place, 0 to 31, if there is one
 -- order p        the placed branches by class, lower numbers first in a class
--- tree_set p      the branches kept: in that order, each that closes no loop with those kept before it
+-- tree_set p     the branches kept: in that order, each that closes no loop with those kept before it
 -- any S n        some number below n is in S
 -- loose p        the voltage sources that are not kept: 12 is met where there is one
 -- late p         the current sources that are kept: 13 is met where there is one

@@ -1,13 +1,13 @@
 -- A plan as a graph: its branches are the places, its nodes 0 to 15. Assumes nothing.
 --
 -- kind_class    the class of a kind: 0 to 4 for voltage source, capacitor, resistor, inductor, current source
--- class_of       the class of a branch
+-- class_of      the class of a branch
 -- tail_of, head_of, class_found
 --               the tail, the head and the class of what stands at a place: node 0 and class 5 if nothing does
--- graph_of p     tail and head of each placed branch; an absent one is drawn from node 0 to node 0, so that it
+-- graph_of p    tail and head of each placed branch; an absent one is drawn from node 0 to node 0, so that it
 --               crosses no set of nodes and joins nothing
 -- placed p      the places, 0 to 31, that hold a branch
--- class_at p     the class at each place
+-- class_at p    the class at each place
 -- Labelled      a list has the labels of the nodes 0 to 15 when the members of S below m are merged
 -- alike ls a    the nodes with the label that the node a has in the list
 use Rattle.std.specs.Prelude.{◌≡◌, ℕ, ◌<◌, ◌&&◌, List, length, is_some, Some, None, Option, ◌==◌, nat_lt, slice_index}

@@ -1,6 +1,6 @@
 -- Signs, and rows of signs as a shown loop, cut or row. Assumes nothing.
 --
--- sign_of       the sign that a value of the program is
+-- sign_of      the sign that a value of the program is
 -- marks        plus or minus
 -- backs        minus
 -- shown f      the row f: the word of its members, and that of those with minus

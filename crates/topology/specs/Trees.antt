@@ -1,16 +1,16 @@
 -- What the calls on a plan's tree answer. Assumes nothing.
 --
 -- order p             the placed branches by class, lower numbers first in a class
--- tree_set p           the branches kept: in that order, each that closes no loop with those kept before it
+-- tree_set p          the branches kept: in that order, each that closes no loop with those kept before it
 -- voltages p          the voltage sources (class 0)
--- no_currents p        the branches that are no current source (classes 0 to 3)
+-- no_currents p       the branches that are no current source (classes 0 to 3)
 -- loose p             the voltage sources that are not kept
 -- late p              the current sources that are kept
--- voltage_loop p k     the loop of the voltage source k with kept voltage sources, run along k
--- current_cut p k      the cut of the nodes that branches other than current sources reach from the tail of k
+-- voltage_loop p k    the loop of the voltage source k with kept voltage sources, run along k
+-- current_cut p k     the cut of the nodes that branches other than current sources reach from the tail of k
 -- showing             refused by that number with what is shown of k, if there is such a k; else what follows
--- tree_of p            12 with the first loose source's loop; 13 with the first late source's cut; else the tree
--- loop_of, cut_of      the loop row of a link, the cut row of a tree branch, none for another number
+-- tree_of p           12 with the first loose source's loop; 13 with the first late source's cut; else the tree
+-- loop_of, cut_of     the loop row of a link, the cut row of a tree branch, none for another number
 -- loop_row_of         12 and 13 as for the tree, then the loop row
 -- cut_row_of          12 and 13 as for the tree, then the cut row
 use Rattle.std.specs.Prelude.{ℕ, cond, not, ◌&&◌, List, Some, None, Option}

@@ -1,7 +1,7 @@
 -- The kinds of a plan's branches. Assumes nothing.
 --
 -- kind_found     the kind of what stands at a place, if anything does
--- kind_at p       the kind of the branch at a place, 0 to 31, if there is one
+-- kind_at p      the kind of the branch at a place, 0 to 31, if there is one
 -- is_voltage, is_current, is_passive
 --                it is a voltage source; a current source; a resistor, an inductor or a capacitor
 -- any S n        some number below n is in S

@@ -1,12 +1,12 @@
 -- One time step of a sheet: what it answers, and the rows that it leaves. Assumes nothing.
 --
--- row_at           the row at a place
--- parts_of         what the system of a plan with a tree T, a step length and its rows is made of
+-- row_at          the row at a place
+-- parts_of        what the system of a plan with a tree T, a step length and its rows is made of
 -- solving         the system eliminated and solved
 -- figure_of       the value found for an unknown, by its place among the unknowns
 -- tree_voltage    the voltage of a tree branch: a voltage source's value, else the found one
 -- voltage_of      the voltage of a branch: a link's is the signed sum of the tree's
--- flow_of          the current of a branch that is no voltage source: conductance × voltage + feed, or the feed
+-- flow_of         the current of a branch that is no voltage source: conductance × voltage + feed, or the feed
 -- current_of      the current of a branch: a voltage source's is what the links of its cut leave
 -- Result          the currents and voltages of a step
 -- renewed         a row with a new current and voltage

@@ -4,8 +4,8 @@
 -- blank_sheet     the sheet that a granted blank leaves
 -- answer          what a call answers on a sheet
 -- run cs          the sheet after the calls cs, the latest first, from the blank sheet; a refused call leaves the sheet
--- start_of cs k    the start that the last granted place at k was given
--- sum_of f cs k    the sum, over the steps granted since that place, of step length × the figure f that the step left in the row of k
+-- start_of cs k   the start that the last granted place at k was given
+-- sum_of f cs k   the sum, over the steps granted since that place, of step length × the figure f that the step left in the row of k
 use Rattle.std.specs.Prelude.{ℕ, cond, List, [], ◌∷◌, replicate, ◌==◌}
 use Rattle.arithmetic.specs.Ops.{Ops}
 use Rattle.sheet.specs.declared.row.Row.{Row}

@@ -4,8 +4,8 @@
 -- sided            a number behind its sign
 -- signed_words     the number of a member of a shown row, `-` before one that points against it
 -- tree_line        `tree` with the members of the tree
--- row_line          `loop` or `cut` with the row's branch and its signed members
--- row_lines         the line of a row, where there is one
+-- row_line         `loop` or `cut` with the row's branch and its signed members
+-- row_lines        the line of a row, where there is one
 -- network_lines    the tree, a line for each link, a line for each tree branch
 -- refused_line     `refused`, the number, and the signed members of a shown loop or cut
 -- fault_line       `refused`, the number, and the line and byte of the fault

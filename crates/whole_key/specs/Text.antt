@@ -4,7 +4,7 @@
 -- spaced      words, each with a space before it
 -- Line        a line: its first word, and those after it
 -- line_text   the bytes of a line: its words parted by a space, and a line feed
--- text_of      the bytes of lines, one line after another
+-- text_of     the bytes of lines, one line after another
 -- listed      what there is for 0, for 1 and so on, below a number
 -- Adds        where the call succeeds, these bytes were added to the text
 use Rattle.std.specs.Prelude.{◌≡◌, ℕ, zero, suc, List, [], ◌∷◌, ◌++◌, Result, OnOk}

@@ -58,7 +58,7 @@ fn push_circuit(
     rows: &mut [Row<f64>],
 ) -> Result<(), AllocError>
     requires { length rows.old ≡ 32 }
-    ensures { Adds result (string_bytes text.old) (string_bytes text.new) (text_of (circuit_lines input.now (record { plan = plan.entry.now; rows = rows.old }))) }
+    ensures { Adds result (string_bytes text.old) (string_bytes text.new) (text_of (circuit_lines input.now (record { plan = plan.now; rows = rows.old }))) }
 {
     match tree(plan) {
         Ok(tree) => {

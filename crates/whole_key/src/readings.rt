@@ -36,7 +36,7 @@ fn readings(plan: &Plan, rows: &[Row<f64>]) -> Result<[Option<i32>; 32], Refusal
 // The readings of all branches after one step of length 1.
 fn stepped_readings(plan: &Plan, rows: &mut [Row<f64>]) -> Result<[Option<i32>; 32], Refusal>
     requires { length rows.old ≡ 32 }
-    ensures { told result ≡ readings_after (record { plan = plan.entry.now; rows = rows.old }) }
+    ensures { told result ≡ readings_after (record { plan = plan.now; rows = rows.old }) }
 {
     let mut area = [<f64 as Arithmetic>::zero(); 304];
     step(plan, rows, <f64 as Arithmetic>::one(), &mut area)?;
@@ -79,7 +79,7 @@ pub(crate) fn push_readings(
     rows: &mut [Row<f64>],
 ) -> Result<(), AllocError>
     requires { length rows.old ≡ 32 }
-    ensures { Adds result (string_bytes text.old) (string_bytes text.new) (text_of (step_lines (record { plan = plan.entry.now; rows = rows.old }))) }
+    ensures { Adds result (string_bytes text.old) (string_bytes text.new) (text_of (step_lines (record { plan = plan.now; rows = rows.old }))) }
 {
     match stepped_readings(plan, rows) {
         Ok(readings) => push_taken(heap, text, &readings),

@@ -41,7 +41,7 @@ fn push_places(
     plan: &Plan,
     rows: &[Row<u16>],
 ) -> Result<(), AllocError>
-    ensures { Adds result (string_bytes text.old) (string_bytes text.new) (text_of (remainder_lines (meant_sheet residue (record { plan = plan.entry.now; rows = rows.now })))) }
+    ensures { Adds result (string_bytes text.old) (string_bytes text.new) (text_of (remainder_lines (meant_sheet residue (record { plan = plan.now; rows = rows.now })))) }
 {
     for k in 0..32 {
         push_place(heap, text, plan, rows, k)?;
@@ -57,7 +57,7 @@ fn push_stepped(
     rows: &mut [Row<u16>],
 ) -> Result<(), AllocError>
     requires { length rows.old ≡ 32 }
-    ensures { Adds result (string_bytes text.old) (string_bytes text.new) (text_of (residue_step_lines (meant_sheet residue (record { plan = plan.entry.now; rows = rows.old })))) }
+    ensures { Adds result (string_bytes text.old) (string_bytes text.new) (text_of (residue_step_lines (meant_sheet residue (record { plan = plan.now; rows = rows.old })))) }
 {
     let mut area = [<u16 as Arithmetic>::zero(); 304];
     match step(plan, rows, <u16 as Arithmetic>::one(), &mut area) {
