@@ -17,8 +17,8 @@ pub returns-in-Ok : goal.returns-in-Ok
 unfolding mark_of
 returns-in-Ok c =
     let cards = c.args.cards.now in
-    c.tree-mark.ensures
-    ∙ ap state_mark (c.in-Ok.ensures.reads ∙ ap (cards_read binary64_ops cards) (blank_begun binary64_ops _ _ c.empty-plan.ensures c.fresh-rows-rows.ensures))
+    c.tree_mark.ensures
+    ∙ ap state_mark (c.in-Ok.ensures.reads ∙ ap (cards_read binary64_ops cards) (blank_begun binary64_ops _ _ c.empty-plan.ensures c.fresh_rows-rows.ensures))
     ∙ sym (ap (λ b. cond b 25 (state_mark (cards_read binary64_ops cards (blank_sheet binary64_ops)))) (le-ltb 4096 _ c.if-cards-gt-LONGEST.false))
 
 pub returns-in-Err : goal.returns-in-Err
@@ -26,5 +26,5 @@ unfolding mark_of
 returns-in-Err c =
     let cards = c.args.cards.now in
     c.number-in-Err.ensures
-    ∙ ap state_mark (c.in-Err.ensures.reads ∙ ap (cards_read binary64_ops cards) (blank_begun binary64_ops _ _ c.empty-plan.ensures c.fresh-rows-rows.ensures))
+    ∙ ap state_mark (c.in-Err.ensures.reads ∙ ap (cards_read binary64_ops cards) (blank_begun binary64_ops _ _ c.empty-plan.ensures c.fresh_rows-rows.ensures))
     ∙ sym (ap (λ b. cond b 25 (state_mark (cards_read binary64_ops cards (blank_sheet binary64_ops)))) (le-ltb 4096 _ c.if-cards-gt-LONGEST.false))

@@ -8,7 +8,7 @@ unfolding in_front
 returns-then-length-buffer c =
     let text = c.args.text.now in
     let buffer = c.args.buffer.now in
-    ap₂ (λ xs (n : ℕ). xs ++ drop n buffer) c.copy-from-slice.ensures.after (let s : length text - 0 ≡ length text = omega arith in s)
+    ap₂ (λ xs (n : ℕ). xs ++ drop n buffer) c.copy_from_slice.ensures.after (let s : length text - 0 ≡ length text = omega arith in s)
     ∙ sym (ap (λ b. cond b (text ++ drop (length text) buffer) buffer) (le-leb (length text) (length buffer) c.if-length-buffer.true))
 
 pub returns-else-length-buffer : goal.returns-else-length-buffer
