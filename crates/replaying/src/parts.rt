@@ -2,8 +2,8 @@
 use crate::files::replay_file;
 use crate::progress::{Progress, Report};
 use crate::stop::{Stop, readable};
+use crate::stories::replay_story;
 use crate::stream::Stream;
-use crate::tree_stories::replay_story;
 use std::alloc::Global;
 
 // One part, whose first line this is.
@@ -25,7 +25,7 @@ fn replay_part(
 fn replay_parts(heap: Global, stream: &mut Stream, progress: &mut Progress) -> Result<(), Stop> {
     for _ in 0..stream.left() {
         let line = readable(stream.line())?;
-        if line == b"end" {
+        if line == b"end".as_slice() {
             break;
         }
         replay_part(heap, stream, line, progress)?;

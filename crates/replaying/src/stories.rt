@@ -124,7 +124,7 @@ fn replay_residues(stream: &mut Stream) -> Result<(), Stop> {
 // The traced place of a story in binary64; none in remainders.
 fn traced_place(line: &[u8]) -> Option<Option<u32>> {
     let mut words = Words::new(line);
-    if words.word()? != b"story" {
+    if words.word()? != b"story".as_slice() {
         return None;
     }
     let traced = match words.word()? {
