@@ -12,7 +12,7 @@ use Rattle.tree_stories.specs.Steps.{tree_voltage, voltage_of, flow_of, current_
 use Rattle.topology.specs.Matrices.{entry}
 use Rattle.topology.specs.Words.{bits}
 use Rattle.assembly.specs.declared.frame.Frame.{Frame}
-use Rattle.assembly.specs.Frames.{cut_at, gathered, Frames, Holds}
+use Rattle.assembly.specs.Frames.{cut_at, gathered, Frames}
 use Rattle.assembly.specs.Figures.{all, in_use, link_voltage, Filled}
 use Rattle.assembly.proofs.Reading.{gathered-same}
 

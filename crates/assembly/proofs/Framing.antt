@@ -1,6 +1,5 @@
 -- The frame of a plan: its words by kind, and its cut rows. Assumes nothing.
-use Rattle.std.proofs.Common.{◌≡◌, ℕ, ◌+◌, ◌<◌, Bool, true, false, cond, not, ◌&&◌, ◌||◌, ltb, leb, List, length, get_or, set, is_some, Some, None, Option, sym, refl, ap, ◌∙◌, ap₂, inl, inr, arith, length-set, get_or-set_other, get_or-set_same}
-use mathlib.Core.Path.{fun_ext}
+use Rattle.std.proofs.Common.{◌≡◌, ℕ, ◌+◌, ◌<◌, Bool, true, false, cond, not, ◌&&◌, ◌||◌, ltb, leb, List, length, get_or, set, is_some, Some, None, Option, sym, refl, ap, ◌∙◌, inl, inr, arith, length-set, get_or-set_other, get_or-set_same}
 use Rattle.std.proofs.lemmas.Bool.{cases_eq}
 use Rattle.sheet.specs.declared.branch.Branch.{Branch}
 use Rattle.sheet.specs.declared.kind.Kind.{Kind}
@@ -8,7 +7,7 @@ use Rattle.sheet.specs.declared.kind.Kind.TheVariants.{Resistor, Inductor, Capac
 use Rattle.sheet.specs.declared.plan.Plan.{Plan}
 use Rattle.sheet.specs.declared.refusal.Shown.{Shown}
 use Rattle.sheet.specs.Plans.{branch_at}
-use Rattle.graphs.specs.Graph.{Set, ◌∈◌}
+use Rattle.graphs.specs.Graph.{◌∈◌}
 use Rattle.graphs.specs.Greedy.{up_to}
 use Rattle.graphs.specs.Cuts.{cut_row}
 use Rattle.topology.specs.Networks.{kind_class, class_found, graph_of, placed, class_at}

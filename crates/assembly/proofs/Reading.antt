@@ -10,7 +10,7 @@ use Rattle.topology.specs.Words.{bits}
 use Rattle.tree_stories.specs.Assembly.{through, taken, agree, Parts, entry_of, fed, levelled, right_of, size, with_row}
 use Rattle.assembly.specs.declared.frame.Frame.{Frame}
 use Rattle.assembly.specs.Frames.{cut_at, gathered, scaled, entered, Frames, Holds}
-use Rattle.assembly.proofs.Turns.{turns_alike, one_more}
+use Rattle.assembly.proofs.Turns.{turns_alike}
 
 module _ {M : Type 0} (o : Ops M) where
   -- one turn of a gathering

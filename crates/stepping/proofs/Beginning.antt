@@ -1,12 +1,12 @@
 -- The calls on a sheet are the calls of a story. Assumes nothing.
-use Rattle.std.proofs.Common.{◌≡◌, ℕ, Bool, true, false, not, eqb, List, [], ◌∷◌, length, sym, refl, ap, ◌∙◌, ap₂, arith}
+use Rattle.std.proofs.Common.{◌≡◌, ℕ, Bool, true, false, not, eqb, List, [], length, sym, refl, ap, ◌∙◌, ap₂, arith}
 use Rattle.arithmetic.specs.Ops.{Ops}
 use Rattle.sheet.specs.declared.plan.Plan.{Plan}
 use Rattle.sheet.specs.declared.row.Row.{Row}
-use Rattle.sheet.specs.Calls.{Sheet, Call, blank, place, lift, set_value, outcome, left, Does}
+use Rattle.sheet.specs.Calls.{Sheet, Call, blank, place, lift, set_value, outcome, left}
 use Rattle.sheet.specs.Meanings.{meanings}
-use Rattle.sheet.specs.Refusals.{Answer, granted, refused, refuse, Told, Verdict, pass, verdict_of}
-use Rattle.tree_stories.specs.Stories.{StoryCall, on_sheet, blank_sheet, run}
+use Rattle.sheet.specs.Refusals.{Answer, granted, refused, refuse, pass, verdict_of}
+use Rattle.tree_stories.specs.Stories.{blank_sheet, run}
 use Rattle.stepping.specs.Telling.{CallsTellStories}
 
 -- a blank that is granted

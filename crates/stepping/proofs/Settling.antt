@@ -1,5 +1,5 @@
 -- A step whose tree is known: 14, 15 or the new rows. Assumes nothing.
-use Rattle.std.proofs.Common.{◌≡◌, ℕ, zero, suc, ◌<◌, ◌≤◌, Bool, true, false, cond, not, ◌&&◌, ◌||◌, List, [], map, length, get_or, set, is_some, Some, None, Option, sym, refl, ap, ◌∙◌, subst, ap₂, arith, get_or-set_other}
+use Rattle.std.proofs.Common.{◌≡◌, ℕ, zero, suc, ◌<◌, ◌≤◌, Bool, true, false, cond, not, ◌&&◌, ◌||◌, List, [], map, get_or, set, is_some, Some, None, Option, sym, refl, ap, ◌∙◌, ap₂, arith, get_or-set_other}
 use Rattle.std.proofs.lemmas.Bool.{both_ways}
 use Rattle.arithmetic.specs.Ops.{Ops}
 use Rattle.sheet.specs.declared.kind.Kind.{Kind}
@@ -8,11 +8,10 @@ use Rattle.sheet.specs.declared.plan.Plan.{Plan}
 use Rattle.sheet.specs.declared.row.Row.{Row}
 use Rattle.sheet.specs.Calls.{Sheet, left}
 use Rattle.sheet.specs.Meanings.{meant_row, meant_sheet}
-use Rattle.sheet.specs.Refusals.{Answer, granted, refused, refuse, Told, Verdict, pass, fail, verdict_of}
+use Rattle.sheet.specs.Refusals.{granted, refused, refuse, Told, pass, fail, verdict_of}
 use Rattle.graphs.specs.Graph.{Set, ◌∈◌}
 use Rattle.topology.specs.Networks.{placed}
-use Rattle.topology.specs.Trees.{tree_set}
-use Rattle.tree_stories.specs.Assembly.{through, Parts}
+use Rattle.tree_stories.specs.Assembly.{through}
 use Rattle.tree_stories.specs.Networks.{kind_at, is_voltage, is_current, is_passive, any}
 use Rattle.tree_stories.specs.Steps.{row_at, parts_of, solving, figure_of, voltage_of, current_of, renewed, renewed_rows, unsound, step_parts, step_result}
 use Rattle.tree_stories.proofs.Areas.{turns_keep}

@@ -1,5 +1,5 @@
 -- A step of the program, from each of its ways out, and what it is in a story. Assumes nothing.
-use Rattle.std.proofs.Common.{◌≡◌, ℕ, ◌≤◌, Bool, true, false, cond, not, ◌&&◌, ◌||◌, T, eqb, ltb, ◌↔◌, List, [], ◌∷◌, ◌++◌, map, length, drop, replicate, sym, refl, ap, ◌∙◌, subst, ap₂, inl, inr, arith}
+use Rattle.std.proofs.Common.{◌≡◌, ℕ, Bool, true, false, cond, not, ◌&&◌, ◌||◌, T, eqb, ltb, List, [], length, sym, refl, ap, ◌∙◌, subst, ap₂, inl, inr, arith}
 use Rattle.std.proofs.lemmas.List.{length-map}
 use Rattle.std.proofs.lemmas.Bool.{not-false}
 use Rattle.arithmetic.specs.Ops.{Ops, Exact, may_divide}
@@ -12,12 +12,12 @@ use Rattle.topology.specs.Trees.{tree_of}
 use Rattle.topology.proofs.Meaning.{Ways, ways}
 use Rattle.tree_stories.specs.Laws.{Live}
 use Rattle.tree_stories.specs.Steps.{row_at, solving, renewed_rows, unsound, step_parts, step_result, stepped}
-use Rattle.tree_stories.specs.Stories.{StoryCall, step, run}
+use Rattle.tree_stories.specs.Stories.{StoryCall, run}
 use Rattle.tree_stories.specs.Theorem.{Granted, Solved, TheoremOfStories, TreesOfStories}
 use Rattle.tree_stories.proofs.Sheets.{run-kept}
 use Rattle.tree_stories.proofs.Theorem.{theorem_of_stories, trees_of_stories}
 use Rattle.stepping.specs.Calls.{cleared, spends, StepDoes, StepSolved, Continues}
-use Rattle.stepping.specs.Steps.{given, settled, Settles}
+use Rattle.stepping.specs.Steps.{settled, Settles}
 
 apart : {X A : Type 0} {x : X} {t : Told} → refused t ≡ granted x → A
 apart e = let z : ◌≡◌ {A = ℕ} 0 1 = cc in absurd (omega arith)

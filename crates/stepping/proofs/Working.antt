@@ -1,5 +1,5 @@
 -- What the area holds from its clearing to the solved system, and the figures from it. Assumes nothing.
-use Rattle.std.proofs.Common.{◌≡◌, ℕ, zero, suc, ◌+◌, ◌<◌, ◌≤◌, Bool, true, false, cond, not, ◌&&◌, ◌||◌, List, [], ◌∷◌, map, length, get_or, set, replicate, is_some, Some, None, Ok, Err, Option, Result, sym, refl, ap, ◌∙◌, subst, ap₂, arith}
+use Rattle.std.proofs.Common.{◌≡◌, ℕ, zero, suc, ◌<◌, Bool, true, false, not, ◌&&◌, ◌||◌, List, [], ◌∷◌, map, length, replicate, is_some, Some, None, Ok, Err, Option, Result, sym, refl, ap, ◌∙◌, subst, ap₂, arith}
 use Rattle.std.proofs.lemmas.List.{get_or-map}
 use Rattle.std.proofs.lemmas.Bool.{and_parts, both_ways}
 use Rattle.arithmetic.specs.Ops.{Ops}
@@ -12,7 +12,6 @@ use Rattle.sheet.specs.Meanings.{meant_row}
 use Rattle.sheet.specs.Refusals.{granted}
 use Rattle.graphs.specs.Graph.{Set, ◌∈◌, count}
 use Rattle.graphs.specs.Cuts.{cut_row}
-use Rattle.linear.specs.Elimination.{solved}
 use Rattle.solver.specs.declared.Unsolved.{Unsolved}
 use Rattle.solver.specs.Answer.{answer, leaves, answered}
 use Rattle.solver.proofs.Law.{with_room}

@@ -5,13 +5,13 @@
 -- StepDoes        a step of the program: this verdict, and these rows and this area after it
 -- StepSolved      what a step of a length that is not zero and with areas of the stated sizes means
 -- Continues       a step of the program is the next call of a story, with that meaning
-use Rattle.std.specs.Prelude.{◌≡◌, ℕ, ◌≤◌, Bool, true, false, cond, ◌||◌, T, ◌↔◌, List, ◌∷◌, ◌++◌, map, length, drop, replicate, ◌==◌}
+use Rattle.std.specs.Prelude.{◌≡◌, ℕ, ◌≤◌, Bool, true, cond, ◌||◌, T, ◌↔◌, List, ◌∷◌, ◌++◌, map, length, drop, replicate, ◌==◌}
 use Rattle.arithmetic.specs.Ops.{Ops, may_divide}
 use Rattle.sheet.specs.declared.plan.Plan.{Plan}
 use Rattle.sheet.specs.declared.row.Row.{Row}
 use Rattle.sheet.specs.Calls.{Sheet, left}
 use Rattle.sheet.specs.Meanings.{meant_row, meant_sheet}
-use Rattle.sheet.specs.Refusals.{Answer, Told, Verdict, pass, fail, verdict_of}
+use Rattle.sheet.specs.Refusals.{Told, Verdict, pass, fail, verdict_of}
 use Rattle.graphs.specs.Graph.{◌∈◌}
 use Rattle.topology.specs.Networks.{placed}
 use Rattle.tree_stories.specs.Laws.{Live}

@@ -9,7 +9,7 @@
 -- Settles         a step of the program whose tree is known: this verdict, and these rows after it
 -- Others          the rows of empty places are as before
 -- settled         what is answered once there is a tree: 14, 15 or the sheet with its new rows
-use Rattle.std.specs.Prelude.{◌≡◌, ℕ, ◌+◌, Bool, false, cond, not, ◌&&◌, ◌||◌, List, map, is_some, Some, None, Option, slice_index_or, slice_set}
+use Rattle.std.specs.Prelude.{◌≡◌, ℕ, ◌+◌, Bool, false, cond, not, ◌&&◌, ◌||◌, List, map, is_some, Some, Option, slice_index_or, slice_set}
 use Rattle.arithmetic.specs.Ops.{Ops}
 use Rattle.sheet.specs.declared.kind.Kind.{Kind}
 use Rattle.sheet.specs.declared.plan.Plan.{Plan}

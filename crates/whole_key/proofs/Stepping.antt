@@ -1,5 +1,5 @@
 -- One step of length 1, from what the call of a step promises.
-use Rattle.std.proofs.Common.{◌≡◌, ℕ, Bool, true, false, not, ◌&&◌, ◌||◌, eqb, ltb, List, [], ◌∷◌, map, length, replicate, Option, sym, refl, ap, ◌∙◌, subst, arith}
+use Rattle.std.proofs.Common.{◌≡◌, ℕ, Bool, true, false, not, ◌&&◌, ◌||◌, eqb, ltb, List, [], ◌∷◌, map, length, replicate, Option, sym, refl, ap, ◌∙◌, arith}
 use lib.Ieee.{Float}
 use Rattle.arithmetic.specs.Binary64.{binary64_ops}
 use Rattle.arithmetic.specs.Ops.{Ops, may_divide}
@@ -10,7 +10,7 @@ use Rattle.sheet.specs.declared.row.Row.{Row}
 use Rattle.sheet.specs.Calls.{Sheet, left, zero_row}
 use Rattle.sheet.specs.Meanings.{meant_row, meant_sheet, meanings}
 use Rattle.sheet.specs.Plans.{empty_plan}
-use Rattle.sheet.specs.Refusals.{Answer, granted, refused, refuse, after, Told, Verdict, pass, fail, verdict_of}
+use Rattle.sheet.specs.Refusals.{Answer, granted, refused, refuse, after, Told, pass, fail, verdict_of}
 use Rattle.stepping.specs.Calls.{StepDoes}
 use Rattle.tree_stories.specs.Steps.{renewed_rows, solving, step_parts, step_result, unsound, stepped}
 use Rattle.topology.specs.Trees.{tree_of}

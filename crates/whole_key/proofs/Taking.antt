@@ -1,5 +1,5 @@
 -- Readings taken one after another.
-use Rattle.std.proofs.Common.{◌≡◌, ℕ, zero, suc, ◌+◌, ◌-◌, ◌<◌, ◌≤◌, List, [], ◌∷◌, ◌++◌, length, take, set, ℤ, Option, sym, refl, ap, ◌∙◌, subst, add-one, arith, take-suc-set}
+use Rattle.std.proofs.Common.{◌≡◌, ℕ, zero, suc, ◌+◌, ◌-◌, ◌<◌, ◌≤◌, List, [], ◌∷◌, ◌++◌, length, take, set, ℤ, Option, sym, refl, ap, ◌∙◌, add-one, arith, take-suc-set}
 use lib.Ieee.{Float}
 use Rattle.std.proofs.lemmas.List.{take_all}
 use Rattle.sheet.specs.declared.plan.Plan.{Plan}

@@ -3,7 +3,7 @@
 -- circuit_lines   the blocks of a sheet that was read from these cards, or the refusal of its tree
 -- key_lines       the lines of a key: 25 for more than 4,096 bytes, a fault of the cards, or the circuit's blocks
 -- key_text        their bytes
-use Rattle.std.specs.Prelude.{ℕ, true, false, cond, List, [], ◌∷◌, ◌++◌, length, nat_lt, Float}
+use Rattle.std.specs.Prelude.{ℕ, cond, List, [], ◌∷◌, ◌++◌, length, nat_lt, Float}
 use Rattle.arithmetic.specs.Binary64.{binary64_ops}
 use Rattle.cards.specs.Following.{blank_sheet}
 use Rattle.cards.specs.Reading.{cards_read}

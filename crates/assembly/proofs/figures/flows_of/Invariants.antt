@@ -1,8 +1,8 @@
 use Rattle.std.proofs.Common.{ℕ, map}
 use Rattle.tree_stories.specs.Assembly.{Parts}
-use Rattle.tree_stories.specs.Steps.{tree_voltage, voltage_of, flow_of, current_of}
+use Rattle.tree_stories.specs.Steps.{voltage_of, flow_of}
 use Rattle.assembly.specs.Frames.{Frames, Holds}
-use Rattle.assembly.specs.Figures.{all, in_use, Filled}
+use Rattle.assembly.specs.Figures.{all, Filled}
 use Rattle.assembly.proofs.figures.flows_of.Given as goal
 
 abbrev pub invariant-loop-k : goal.invariant-loop-k

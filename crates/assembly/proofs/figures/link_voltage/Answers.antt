@@ -1,9 +1,8 @@
-use Rattle.std.proofs.Common.{◌≡◌, sym, ap, ◌∙◌, arith}
+use Rattle.std.proofs.Common.{◌≡◌, ap, ◌∙◌, arith}
 use Rattle.topology.specs.Matrices.{entry}
-use Rattle.tree_stories.specs.Assembly.{through}
 use Rattle.assembly.specs.Figures.{link_voltage}
 use Rattle.assembly.proofs.Turns.{none_made, one_more, all_made}
-use Rattle.assembly.proofs.Filling.{link_turn, link-turn}
+use Rattle.assembly.proofs.Filling.{link-turn}
 use Rattle.assembly.proofs.figures.link_voltage.Goals as goal
 
 pub loop-t-init : goal.loop-t-init

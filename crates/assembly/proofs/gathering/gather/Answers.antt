@@ -1,4 +1,4 @@
-use Rattle.std.proofs.Common.{◌≡◌, cond, ap, ◌∙◌, arith}
+use Rattle.std.proofs.Common.{◌≡◌, cond, ◌∙◌, arith}
 use Rattle.tree_stories.specs.Assembly.{taken}
 use Rattle.assembly.specs.Frames.{gathered}
 use Rattle.assembly.proofs.Turns.{none_made, one_more, all_made}

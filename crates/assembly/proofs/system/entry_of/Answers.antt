@@ -1,5 +1,4 @@
 use Rattle.std.proofs.Common.{◌+◌, map, get_or, ap, ◌∙◌, ap₂}
-use Rattle.graphs.specs.Graph.{Sign}
 use Rattle.tree_stories.specs.Assembly.{agree}
 use Rattle.topology.specs.Matrices.{entry}
 use Rattle.topology.specs.Words.{bits}

@@ -1,5 +1,4 @@
 use Rattle.std.proofs.Common.{cond, map, sym, ap, ◌∙◌, ap₂, arith}
-use Rattle.graphs.specs.Cuts.{turned}
 use Rattle.tree_stories.specs.Assembly.{agree, levelled}
 use Rattle.topology.specs.Matrices.{entry}
 use Rattle.assembly.proofs.Reading.{level-gathered}

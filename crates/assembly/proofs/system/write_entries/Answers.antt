@@ -1,9 +1,7 @@
-use Rattle.std.proofs.Common.{◌≡◌, ℕ, cond, map, set, sym, ap, ◌∙◌, ap₂, arith}
+use Rattle.std.proofs.Common.{◌≡◌, ap, ◌∙◌, arith}
 use Rattle.graphs.specs.Graph.{count}
-use Rattle.linear.specs.Elimination.{cell}
-use Rattle.tree_stories.specs.Assembly.{through, entry_of}
 use Rattle.topology.specs.Words.{bits}
-use Rattle.assembly.specs.Frames.{Holds, entered}
+use Rattle.assembly.specs.Frames.{entered}
 use Rattle.assembly.proofs.Turns.{none_made, one_more, all_made}
 use Rattle.assembly.proofs.Reading.{advanced, advanced_le, none-counted, entry-at, entries-kept}
 use Rattle.assembly.proofs.system.write_entries.Goals as goal

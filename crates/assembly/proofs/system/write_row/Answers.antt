@@ -1,4 +1,4 @@
-use Rattle.std.proofs.Common.{◌≡◌, cond, map, sym, ap, ◌∙◌}
+use Rattle.std.proofs.Common.{map, sym, ap, ◌∙◌}
 use Rattle.assembly.proofs.Reading.{row_written, entered-kept}
 use Rattle.assembly.proofs.system.write_row.Goals as goal
 

@@ -1,4 +1,4 @@
-use Rattle.std.proofs.Common.{◌≡◌, ◌<◌, ◌≢◌, length, replicate, sym, ap, ◌∙◌, arith, get_or-set_other, get_or-set_same, ext_get_or, below_more}
+use Rattle.std.proofs.Common.{◌<◌, ◌≢◌, length, replicate, sym, ap, ◌∙◌, arith, get_or-set_other, get_or-set_same, ext_get_or, below_more}
 use lib.ListN.{length-replicate, get_or-replicate}
 use Rattle.stepping.proofs.area.clear.Goals as goal
 

@@ -1,4 +1,4 @@
-use Rattle.std.proofs.Common.{[], ◌∷◌, string_bytes, codes}
+use Rattle.std.proofs.Common.{[], string_bytes, codes}
 use Rattle.whole_key.specs.Blocks.{member_words}
 use Rattle.whole_key.specs.Text.{listed}
 use Rattle.whole_key.proofs.Adding.{line_begun, line-ended, line_more}

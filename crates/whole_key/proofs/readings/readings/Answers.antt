@@ -1,7 +1,6 @@
-use Rattle.std.proofs.Common.{◌≡◌, ◌<◌, [], length, take, sym, refl, ap, ◌∙◌, arith, length-set}
+use Rattle.std.proofs.Common.{◌≡◌, ◌<◌, [], length, sym, refl, ap, ◌∙◌, arith, length-set}
 use Rattle.std.proofs.lemmas.Result.{err_from_is_err_and}
-use Rattle.sheet.specs.Refusals.{told, granted, refused, means}
-use Rattle.whole_key.specs.Blocks.{readings_below}
+use Rattle.sheet.specs.Refusals.{told, refused, means}
 use Rattle.whole_key.proofs.Taking.{none-taken, one-taken, one-refused, all-taken}
 use Rattle.whole_key.proofs.readings.readings.Goals as goal
 

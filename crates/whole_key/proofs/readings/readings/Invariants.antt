@@ -1,4 +1,4 @@
-use Rattle.std.proofs.Common.{◌≡◌, ℕ, length, take}
+use Rattle.std.proofs.Common.{◌≡◌, length, take}
 use Rattle.sheet.specs.Refusals.{granted}
 use Rattle.whole_key.specs.Blocks.{readings_below}
 use Rattle.whole_key.proofs.readings.readings.Given as goal

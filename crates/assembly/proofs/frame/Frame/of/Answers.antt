@@ -1,7 +1,6 @@
-use Rattle.std.proofs.Common.{◌≡◌, ℕ, not, ◌&&◌, refl, ap, ◌∙◌, ap₂}
+use Rattle.std.proofs.Common.{refl, ap, ◌∙◌, ap₂}
 use mathlib.Core.Path.{fun_ext}
 use Rattle.graphs.specs.Graph.{Set}
-use Rattle.topology.specs.Networks.{placed}
 use Rattle.topology.specs.Words.{bits, except}
 use Rattle.assembly.proofs.Framing.{passive_is, feeding_is, fixed_is, placed_is}
 use Rattle.assembly.proofs.frame.Frame.of.Goals as goal
