@@ -1,8 +1,9 @@
 """Runs a program on fresh card files and compares what it prints with the reference, byte by byte.
 
-    python3 reference/check.py --seed 7 --count 500 -- ./key
+    python3 reference/check.py --seed 7 --count 500 --trees -- ./key
 
-The program reads a card file from standard input, prints its key, and ends with status 0. The check stops at
+The program reads a card file from standard input, prints its key, and ends with status 0. `--trees` compares tree, loop
+and cut lines alone, for a program that does not print the figures of a step. The check stops at
 the first difference and prints the seed and the file.
 """
 

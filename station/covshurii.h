@@ -21,7 +21,7 @@ extern "C" {
 /* What covshurii_key answers for want of memory. The buffer is then as it was. */
 #define COVSHURII_NO_MEMORY SIZE_MAX
 
-/* The key of a card file, as the program `key` prints it. Answers the length that the key needs. If the buffer has at
+/* The whole key of a card file (docs/PRINTED_KEY.md). Answers the length that the key needs. If the buffer has at
  * least that length, the key stands at its front and the rest of it is as it was; a shorter buffer is left alone. */
 size_t covshurii_key(const uint8_t *cards, size_t cards_length, uint8_t *buffer, size_t buffer_length);
 

@@ -1,5 +1,5 @@
 // Replays a stream of card files and stories with the engine's own calls, and compares each answer with the expected one
-// that the stream holds. reference/README.md has the format of a stream, docs/REPLAY.md how one is made and run.
+// that the stream holds. reference/README.md has the format of a stream, and how the one of the gate is made.
 #![tactic(auto)]
 
 mod answers;
