@@ -1,5 +1,6 @@
 -- A call on values, taken by meaning, is the call on their meanings. Assumes nothing.
-use Rattle.std.proofs.Common.{◌≡◌, ℕ, zero, suc, Bool, true, false, not, eqb, ltb, List, [], ◌∷◌, map, length, get_or, set, replicate, is_some, Some, None, Option, sym, refl, ap, ◌∙◌}
+use Rattle.std.proofs.Common.{◌≡◌, ℕ, zero, suc, Bool, true, false, not, eqb, ltb, List, ◌∷◌, map, length, get_or, set, replicate, is_some, Some, None, Option, sym, refl, ap, ◌∙◌}
+use Rattle.std.proofs.Math.ListN.{get_or-map}
 use Rattle.std.proofs.lemmas.List.{map-set, length-map}
 use Rattle.arithmetic.specs.Ops.{Ops}
 use Rattle.sheet.specs.declared.branch.Branch.{Branch}
@@ -18,11 +19,6 @@ use Rattle.sheet.specs.Meanings.{meanings, meant_row, meant_placement, meant_she
 map-replicate : {X Y : Type 0} (f : X → Y) (n : ℕ) (x : X) → replicate n (f x) ≡ map f (replicate n x)
 map-replicate f zero x = refl
 map-replicate f (suc n) x = ap (λ l. f x ∷ l) (map-replicate f n x)
-
-get_or_mapped : {X Y : Type 0} (f : X → Y) (l : List X) (k : ℕ) (d : X) → get_or (map f l) k (f d) ≡ f (get_or l k d)
-get_or_mapped f [] k d = refl
-get_or_mapped f (x ∷ l) zero d = refl
-get_or_mapped f (x ∷ l) (suc k) d = get_or_mapped f l k d
 
 module _ {V M : Type 0} (o : Ops M) (mean : V → M) (nil : V) where
   abbrev values : Numbers V
@@ -109,7 +105,7 @@ module _ {V M : Type 0} (o : Ops M) (mean : V → M) (nil : V) where
       → granted (record { plan = s.plan; rows = set (map (meant_row mean) s.rows) k (revalued (get_or (map (meant_row mean) s.rows) k (zero_row means)) (mean v)) })
       ≡ meant_answer mean (granted (record { plan = s.plan; rows = set s.rows k (revalued (get_or s.rows k (zero_row values)) v) }))
   changed s k v =
-      ap (λ r. granted (record { plan = s.plan; rows = set (map (meant_row mean) s.rows) k (revalued r (mean v)) })) (get_or_mapped (meant_row mean) s.rows k (zero_row values))
+      ap (λ r. granted (record { plan = s.plan; rows = set (map (meant_row mean) s.rows) k (revalued r (mean v)) })) (get_or-map (meant_row mean) s.rows k (zero_row values))
       ∙ ap (λ l. granted (record { plan = s.plan; rows = l })) (sym (map-set (meant_row mean) s.rows k (revalued (get_or s.rows k (zero_row values)) v)))
 
   takes_same : (k : Kind) (v : V) → takes_value means k (mean v) ≡ takes_value values k v

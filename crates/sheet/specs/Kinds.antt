@@ -6,6 +6,7 @@
 -- kind_numbered   the kind of that number, if there is one
 -- kind_lettered   the kind of that letter, if there is one
 -- is_source       a voltage or current source
+-- has_start       an inductor or a capacitor: the kinds that may have a start
 use Rattle.std.specs.Prelude.{ℕ, Bool, true, false, cond, List, [], ◌∷◌, Some, None, Option, nat_eq}
 use Rattle.sheet.specs.declared.kind.Kind.{Kind}
 use Rattle.sheet.specs.declared.kind.Kind.TheVariants.{Resistor, Inductor, Capacitor, VoltageSource, CurrentSource}
@@ -40,3 +41,10 @@ is_source Inductor = false
 is_source Capacitor = false
 is_source VoltageSource = true
 is_source CurrentSource = true
+
+abbrev pub has_start : Kind → Bool
+has_start Resistor = false
+has_start Inductor = true
+has_start Capacitor = true
+has_start VoltageSource = false
+has_start CurrentSource = false

@@ -1,6 +1,6 @@
 // The calls on a sheet: blank, place, lift and set. Clause `does` is on values, and `story` on what they mean.
-ghost use Rattle.std.specs.Prelude.{◌≡◌, ◌<◌, map, length, replicate};
-ghost use Rattle.sheet.specs.Calls.{valued, zero_row, on_place, blank, place, lift, set_value, Does};
+ghost use Rattle.std.specs.Prelude.{◌≡◌, map};
+ghost use Rattle.sheet.specs.Calls.{valued, on_place, blank, place, lift, set_value, Does};
 ghost use Rattle.sheet.specs.Meanings.{meanings, meant_row, meant_call};
 ghost use Rattle.sheet.specs.Refusals.{told, verdict, granted};
 
@@ -9,23 +9,11 @@ use crate::placement::Placement;
 use crate::places::{put_row, set_row_value};
 use crate::plan::Plan;
 use crate::refusal::Refusal;
-use crate::row::Row;
+use crate::row::{Row, fresh_rows};
 use arithmetic::Arithmetic;
 
-fn zero_row<N: Arithmetic>() -> Row<N>
-    ensures { result ≡ zero_row (valued N.ops N.mean N.nil) }
-{
-    let zero = N::zero();
-    Row {
-        value: zero,
-        start: zero,
-        current: zero,
-        voltage: zero,
-    }
-}
-
 // 1 for a row table of another length, 2 for a number above 31.
-fn check_place(rows: usize, number: u32) -> Result<(), Refusal>
+pub fn check_place(rows: usize, number: u32) -> Result<(), Refusal>
     ensures { told result ≡ on_place rows number (granted tt) }
 {
     if rows != 32 {
@@ -37,16 +25,7 @@ fn check_place(rows: usize, number: u32) -> Result<(), Refusal>
     Ok(())
 }
 
-// Every row zero.
-fn zero_rows<N: Arithmetic>(rows: &mut [Row<N>])
-    ensures { rows.new ≡ replicate (length rows.old) (zero_row (valued N.ops N.mean N.nil)) }
-{
-    let zero = zero_row();
-    for row in rows.iter_mut() {
-        *row = zero;
-    }
-}
-
+// The caller lends the rows beside the plan, which owns no memory of the arithmetic.
 impl Plan {
     // Empties the plan and makes every row zero. Refused by 1.
     pub fn blank<N: Arithmetic>(&mut self, rows: &mut [Row<N>]) -> Result<(), Refusal>
@@ -57,7 +36,7 @@ impl Plan {
             return Err(Refusal::WrongLength);
         }
         *self = Plan::empty();
-        zero_rows(rows);
+        rows.copy_from_slice(&fresh_rows());
         Ok(())
     }
 
@@ -91,7 +70,7 @@ impl Plan {
             return Err(Refusal::PlaceEmpty);
         }
         self.put(number, None);
-        put_row(rows, number, zero_row());
+        put_row(rows, number, Row::zero());
         Ok(())
     }
 

@@ -15,10 +15,11 @@ mod refusal;
 mod row;
 
 pub use branch::Branch;
+pub use calls::check_place;
 pub use ends::Ends;
 pub use kind::Kind;
 pub use look::Look;
 pub use placement::Placement;
 pub use plan::Plan;
 pub use refusal::{Refusal, Shown};
-pub use row::Row;
+pub use row::{Row, fresh_rows};

@@ -2,6 +2,7 @@
 ghost use Rattle.std.specs.Prelude.{◌≡◌};
 ghost use Rattle.sheet.specs.Looks.{seen};
 
+use crate::calls::check_place;
 use crate::kind::Kind;
 use crate::plan::Plan;
 use crate::row::Row;
@@ -24,12 +25,7 @@ impl Plan {
     pub fn look<N: Arithmetic>(&self, rows: &[Row<N>], number: u32) -> Option<Look<N>>
         ensures { result ≡ seen N.nil self.now rows.now number }
     {
-        if rows.len() != 32 {
-            return None;
-        }
-        if number > 31 {
-            return None;
-        }
+        check_place(rows.len(), number).ok()?;
         let branch = self.at(number)?;
         let row = rows[number as usize];
         Some(Look {

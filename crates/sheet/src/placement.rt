@@ -1,4 +1,4 @@
-// What a branch is placed with. The numbers are whatever the caller hands over.
+// What a branch is placed with. The numbers are whatever the caller hands over: the kind too, which a call refuses by 5.
 #[derive(Clone, Copy)]
 pub struct Placement<N> {
     pub number: u32,

@@ -20,10 +20,7 @@ impl Plan {
     pub fn at(&self, number: u32) -> Option<Branch>
         ensures { result ≡ branch_at self.now number }
     {
-        match self.places.get(number as usize) {
-            Some(place) => *place,
-            None => None,
-        }
+        *self.places.get(number as usize)?
     }
 
     pub(crate) fn put(&mut self, number: u32, branch: Option<Branch>)

@@ -1,9 +1,12 @@
 // Every refusal of the engine, with its number and what it shows.
-ghost use Rattle.std.specs.Prelude.{◌≡◌};
+ghost use Rattle.std.specs.Prelude.{◌≡◌, decimal, Some};
 ghost use Rattle.sheet.specs.Refusals.{means, shown_of};
 
+use std::error::Error;
+use std::fmt;
+
 // A shown loop, cut or row: the members, and those of them that point against the run or into the set. Bit k is place k.
-#[derive(Clone, Copy, PartialEq, Eq, Debug)]
+#[derive(Clone, Copy, PartialEq, Eq, Default, Debug)]
 pub struct Shown {
     pub members: u32,
     pub against: u32,
@@ -64,7 +67,7 @@ pub enum Refusal {
 }
 
 impl Refusal {
-    // The number that the refusal is known by.
+    // The number that the refusal is known by. Not a `From`, since the number alone drops what is shown.
     pub fn number(self) -> u32
         ensures { result ≡ (means self).number }
     {
@@ -107,3 +110,14 @@ impl Refusal {
         }
     }
 }
+
+// The number of the refusal, in decimal.
+impl fmt::Display for Refusal {
+    ghost output = { λ r. Some (decimal (means r).number) };
+
+    fn fmt<W: fmt::Write>(&self, f: &mut fmt::Formatter<W>) -> fmt::Result {
+        write!(f, "{}", self.number())
+    }
+}
+
+impl Error for Refusal {}

@@ -1,7 +1,7 @@
 use Rattle.std.proofs.Common.{rules}
 use Rattle.std.proofs.lemmas.Result.{err_from_is_err_and}
 use Rattle.sheet.proofs.Meanings.{both_ways}
-use Rattle.sheet.proofs.Outcomes.{place_early, place_passes}
+use Rattle.sheet.proofs.Outcomes.{place_early}
 use Rattle.sheet.proofs.plan.Plan.place.Goals as goal
 
 pub returns-in_err-check_place : goal.returns-in_err-check_place
@@ -18,7 +18,4 @@ pub returns-in_err-branch : goal.returns-in_err-branch
 returns-in_err-branch g c = both_ways g.N.Arithmetic.ops g.N.Arithmetic.mean g.N.Arithmetic.nil g.met.N.Arithmetic.nought (search rules)
 
 pub returns : goal.returns
-returns g c =
-    simp (c.put.ensures, c.put_row.ensures)
-    (both_ways g.N.Arithmetic.ops g.N.Arithmetic.mean g.N.Arithmetic.nil g.met.N.Arithmetic.nought
-    (place_passes _ c.args.placement c.args.self.now c.args.rows.now c.in_ok-branch.branch c.in_ok-branch.row c.in_ok-check_place.ensures (cc) c.in_ok-branch.ensures))
+returns g c = both_ways g.N.Arithmetic.ops g.N.Arithmetic.mean g.N.Arithmetic.nil g.met.N.Arithmetic.nought (search rules)
