@@ -18,9 +18,9 @@ pub fn row_of<N: Copy>(v: N) -> Row<N> {
 }
 
 // 0 for a granted call, else the refusal's number.
-pub fn number_of(answer: Result<(), Refusal>) -> u32 {
+pub fn number_of<T: Drop>(answer: Result<T, Refusal>) -> u32 {
     match answer {
-        Ok(()) => 0,
+        Ok(_) => 0,
         Err(refusal) => refusal.number(),
     }
 }
