@@ -1,6 +1,9 @@
 -- What the answer and what is left come to: by the theory of linear systems, in every exact arithmetic. Assumes nothing.
-use Rattle.std.proofs.Common.{◌≡◌, ℕ, ◌≤◌, Bool, true, false, cond, T, leb, List, length, is_ok, Ok, Err, Result, sym, refl, ap, ◌∙◌, subst, ap₂, arith, le-leb, leb-true}
-use borrow.Author.Tests.{clash}
+use Rattle.std.proofs.Common.{◌≡◌, ℕ, ◌-◌, ◌<◌, ◌≤◌, Bool, true, false, cond, T, leb, List, length, is_ok, Err, Result, sym, refl, ap, ◌∙◌, subst, ap₂, arith, le-leb, leb-true}
+use Rattle.std.proofs.lemmas.Grind.{common_steps}
+use Rattle.std.specs.Prelude.{MatchOption, Option, Some, None}
+use Rattle.linear.specs.Loops.{first}
+use Rattle.linear.proofs.Loops.{First, first_is}
 use Rattle.arithmetic.specs.Ops.{Ops, Exact}
 use Rattle.linear.specs.Elimination.{solved}
 use Rattle.linear.specs.Systems.{member, Solution, TrivialKernel, Singular, found}
@@ -9,28 +12,39 @@ use Rattle.linear.proofs.Theorem.{linear_systems}
 use Rattle.linear.proofs.Outside.{solved_stays}
 use Rattle.solver.specs.declared.Unsolved.{Unsolved}
 use Rattle.solver.specs.declared.Unsolved.TheVariants.{NoRoom, NoPivot}
-use Rattle.solver.specs.Answer.{fits, answered, answer, leaves}
+use Rattle.solver.specs.Answer.{fits, answered, answer, leaves, below}
 
 true_if : (b c : Bool) → cond b c false ≡ true → (b ≡ true) × (c ≡ true)
 true_if true c e = (refl, e)
-true_if false c e = absurd (clash e)
+true_if false c e = cc
 
 ok_both : (a b : Bool) → is_ok (answered a b) ≡ true → (a ≡ true) × (b ≡ true)
-ok_both false b e = absurd (clash e)
-ok_both true false e = absurd (clash e)
+ok_both false b e = cc
+ok_both true false e = cc
 ok_both true true e = (refl, refl)
 
--- the answers differ
-pub pivot_there : {A : Type 0} → ◌≡◌ {A = Result (Unit {0}) Unsolved} (Err NoPivot) (Err NoRoom) → A
-pivot_there e = let z : ◌≡◌ {A = ℕ} 0 1 = cc in absurd (omega arith)
-
-pub solved_there : {A : Type 0} {u : Unsolved} → ◌≡◌ {A = Result (Unit {0}) Unsolved} (Ok tt) (Err u) → A
-solved_there e = let z : ◌≡◌ {A = ℕ} 0 1 = cc in absurd (omega arith)
+-- `find` over a range finds the number that `first` names, where that lies in the range
+pub find_first :
+    (p : ℕ → Bool) (n i : ℕ) (r : Option ℕ) →
+    MatchOption r ((k : ℕ) → i ≤ k → k < n → p k ≡ false) (λ j. (i ≤ j) × (j < n) × (p j ≡ true) × ((k : ℕ) → i ≤ k → k < j → p k ≡ false)) →
+    r ≡ below n (first p (n - i) i)
+find_first p n i r h = go r h (first p (n - i) i) (first_is p (n - i) i)
+  where
+    go :
+        (r : Option ℕ) → MatchOption r ((k : ℕ) → i ≤ k → k < n → p k ≡ false) (λ j. (i ≤ j) × (j < n) × (p j ≡ true) × ((k : ℕ) → i ≤ k → k < j → p k ≡ false)) →
+        (t : ℕ) → First p (n - i) i t → r ≡ below n t
+    go None h t f = let a = f.passes in let b = h t in grind (arith, common_steps)
+    go (Some j) h t f = let a = f.passes in let b = f.before j in let d = h.3 t in grind (arith, common_steps)
 
 pivot_both : (a b : Bool) → answered a b ≡ Err NoPivot → (a ≡ true) × (b ≡ false)
-pivot_both false b e = pivot_there (sym e)
+pivot_both false b e = cc
 pivot_both true false e = (refl, refl)
-pivot_both true true e = solved_there e
+pivot_both true true e = cc
+
+-- where there is room, no answer says that there is none
+pub roomy : {A : Type 0} (r : Result (Unit {0}) Unsolved) (b : Bool) → r ≡ answered true b → r ≡ Err NoRoom → A
+roomy r false e h = cc
+roomy r true e h = cc
 
 -- all that the public call promises
 abbrev pub Promise : {M : Type 0} → Ops M → Bool → ℕ → ℕ → List M → List M → Type 0 → Result (Unit {0}) Unsolved → Type 0
@@ -53,20 +67,12 @@ module _ {M : Type 0} (o : Ops M) (n : ℕ) (w : List M) where
   unfolding answer leaves
   no_room_is e = (sym (ap (λ (b : Bool). answered b (solved o n w).ok) e), sym (ap (λ (b : Bool). cond b (solved o n w).left w) e))
 
-  pub no_pivot_is : fits n (length w) ≡ true → (solved o n w).ok ≡ false → (Err NoPivot ≡ answer o n w) × ((solved o n w).left ≡ leaves o n w)
+  pub room_is : fits n (length w) ≡ true → (answer o n w ≡ answered true (solved o n w).ok) × (leaves o n w ≡ (solved o n w).left)
   unfolding answer leaves
-  no_pivot_is e f = (sym (ap₂ answered e f), sym (ap (λ (b : Bool). cond b (solved o n w).left w) e))
+  room_is e = (ap (λ (b : Bool). answered b (solved o n w).ok) e, ap (λ (b : Bool). cond b (solved o n w).left w) e)
 
-  pub solved_is : fits n (length w) ≡ true → (solved o n w).ok ≡ true → (Ok tt ≡ answer o n w) × ((solved o n w).left ≡ leaves o n w)
-  unfolding answer leaves
-  solved_is e f = (sym (ap₂ answered e f), sym (ap (λ (b : Bool). cond b (solved o n w).left w) e))
-
-  -- where there is room
   pub with_room : n ≤ 15 → 304 ≤ length w → (answer o n w ≡ answered true (solved o n w).ok) × (leaves o n w ≡ (solved o n w).left)
-  unfolding answer leaves
-  with_room hn long =
-      let e : fits n (length w) ≡ true = ap₂ (λ (a b : Bool). cond a b false) (le-leb n 15 hn) (le-leb 304 (length w) long) in
-      (ap (λ (b : Bool). answered b (solved o n w).ok) e, ap (λ (b : Bool). cond b (solved o n w).left w) e)
+  with_room hn long = room_is (ap₂ (λ (a b : Bool). cond a b false) (le-leb n 15 hn) (le-leb 304 (length w) long))
 
   stays : (v : List M) → v ≡ leaves o n w → (k : ℕ) → Outside n k → member o v k ≡ member o w k
   unfolding leaves

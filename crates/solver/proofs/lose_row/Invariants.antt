@@ -1,11 +1,11 @@
-use Rattle.std.proofs.Common.{◌+◌, ◌-◌, map}
-use Rattle.linear.specs.Loops.{steps}
-use Rattle.linear.specs.Elimination.{lose_entry}
+use Rattle.std.proofs.Common.{◌+◌, map}
+use Rattle.linear.specs.Elimination.{entry, lose_entry, lose_row}
 use Rattle.linear.proofs.Turns.{Left}
 use Rattle.solver.proofs.lose_row.Given as goal
 
 abbrev pub invariant-loop-column : goal.invariant-loop-column
 invariant-loop-column g l =
+    let o = g.N.Arithmetic.ops in
     let m = g.N.Arithmetic.mean in
-    let f = lose_entry g.N.Arithmetic.ops l.pivot l.row (m l.factor) in
-    Left f (l.unknowns + 1) l.column (map m l.work) (steps f (l.unknowns + 1 - l.pivot) l.pivot (map m l.initial.work))
+    let w = map m l.initial.work in
+    Left (lose_entry o l.pivot l.row (o.div (entry o w l.row l.pivot) (entry o w l.pivot l.pivot))) (l.unknowns + 1) l.column (map m l.work) (lose_row o l.unknowns l.pivot l.row w)
