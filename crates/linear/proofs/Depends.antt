@@ -6,7 +6,6 @@ use Rattle.arithmetic.specs.Ops.{Ops, may_divide}
 use Rattle.linear.specs.Elimination.{cell, entry, lose_entry, lose_row, clear, swap_entry, swap_rows, pivot_row, eliminate_column, eliminate, lose_found, back_row, back, solved}
 use Rattle.linear.specs.Systems.{found}
 use Rattle.linear.specs.Inside.{SameSystem, Inside}
-use Rattle.linear.proofs.Loops.{true_false}
 use Rattle.linear.proofs.Twice.{steps-both, down-both, Both, tries-both, first-both}
 use Rattle.linear.proofs.Entries.{entry_same, entry_row, entry_column}
 use Rattle.linear.proofs.Outside.{solved_stays}
@@ -95,8 +94,8 @@ module _ {M : Type 0} (o : Ops M) (n : ℕ) (hn : n ≤ 15) where
           (b d : Bool) → b ≡ d →
           Same (cond b (back o n (eliminate o n w).left) (eliminate o n w).left) (cond d (back o n (eliminate o n v).left) (eliminate o n v).left)
       go true true x = back_same _ _ e.left
-      go true false x = true_false x
-      go false true x = true_false (sym x)
+      go true false x = cc
+      go false true x = cc
       go false false x = e.left
 
   found_same : (w v : List M) → SameSystem o n w v → found o n w ≡ found o n v

@@ -1,5 +1,5 @@
 -- What a loop keeps from turn to turn holds at its end. Assumes nothing.
-use Rattle.std.proofs.Common.{◌≡◌, ℕ, zero, suc, ◌+◌, ◌<◌, ◌≤◌, Bool, true, false, cond, sym, refl, ap, ◌∙◌, subst, arith}
+use Rattle.std.proofs.Common.{◌≡◌, ℕ, zero, suc, ◌+◌, ◌<◌, ◌≤◌, Bool, true, false, cond, refl, ap, ◌∙◌, subst, arith}
 use native.Mathlib.Decide.{ℕ_discrete}
 use Rattle.linear.specs.Loops.{Tried, steps, down, first, tries}
 
@@ -23,15 +23,12 @@ pub record Ends {W : Type 0} (P Q : W → Type 0) (t : Tried W) : Type 0 where
   pub ended : t.ok ≡ true → P t.left
   pub stopped : t.ok ≡ false → Q t.left
 
-pub true_false : {A : Type 0} → true ≡ false → A
-true_false {A} e = subst (λ (b : Bool). cond b (Unit {0}) A) e tt
-
 pub tries-keep :
     {W : Type 0} (P : ℕ → W → Type 0) (Q : W → Type 0) (f : ℕ → W → Tried W) (n i e : ℕ) (w : W) → i + n ≡ e → P i w →
     ((j : ℕ) (v : W) → i ≤ j → j < e → P j v → Ends (P (suc j)) Q (f j v)) → Ends (P e) Q (tries f n i w)
 unfolding tries
 tries-keep P Q f zero i e w s p turn =
-    record { ended = λ _. subst (λ (j : ℕ). P j w) (let t : i ≡ e = omega arith in t) p; stopped = λ b. true_false b }
+    record { ended = λ _. subst (λ (j : ℕ). P j w) (let t : i ≡ e = omega arith in t) p; stopped = λ b. cc }
 tries-keep P Q f (suc n) i e w s p turn =
     go (f i w).ok refl (turn i w (omega arith) (omega arith) p) (λ q. tries-keep P Q f n (suc i) e (f i w).left (omega arith) q (λ j v l. turn j v (omega arith)))
   where
@@ -41,7 +38,7 @@ tries-keep P Q f (suc n) i e w s p turn =
         Ends (P e) Q (tries f n (suc i) (f i w).left)) →
         Ends (P e) Q (cond b (tries f n (suc i) (f i w).left) (f i w))
     go true b one rest = rest (one.ended b)
-    go false b one rest = record { ended = λ t. true_false (sym t ∙ b); stopped = one.stopped }
+    go false b one rest = record { ended = λ t. cc; stopped = one.stopped }
 
 -- the first number that passes a test
 pub record First (p : ℕ → Bool) (n i r : ℕ) : Type 0 where

@@ -4,7 +4,7 @@ use native.Mathlib.Decide.{ℕ_discrete, dec_lt}
 use borrow.Author.Tests.{not-true, not-false}
 use Rattle.arithmetic.specs.Ops.{Ops, Exact, may_divide}
 use Rattle.linear.specs.Elimination.{entry, clear, swap_rows, pivot_row, eliminate_column, eliminate}
-use Rattle.linear.proofs.Loops.{true_false, Ends, tries-keep, First, first_is}
+use Rattle.linear.proofs.Loops.{Ends, tries-keep, First, first_is}
 use Rattle.linear.proofs.Ring.{ring}
 use Rattle.linear.proofs.Entries.{Cleared, cleared, Swapped, swapped}
 use Rattle.linear.proofs.Matrix.{Alike, Exchanged, exchanged_alike, Reduced, reduced_alike}
@@ -103,7 +103,7 @@ module _ {M : Type 0} {o : Ops M} (laws : Exact o) where
   divides_some a m z =
       let yes₁ : o.is_zero a ≡ true = ap o.is_zero z ∙ laws.zero_yes in
       let no₁ : o.is_zero a ≡ false = not-true (o.is_zero a) m in
-      true_false (sym yes₁ ∙ no₁)
+      cc
 
   pub divides_none : (a : M) → may_divide o a ≡ false → a ≡ o.nought
   divides_none a m = laws.zero_only a (not-false (o.is_zero a) m)

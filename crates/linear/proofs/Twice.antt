@@ -1,7 +1,6 @@
 -- Two runs of a loop whose turns keep a relation. Assumes nothing.
-use Rattle.std.proofs.Common.{◌≡◌, ℕ, zero, suc, ◌+◌, ◌<◌, ◌≤◌, Bool, true, false, cond, sym, refl, ap, ◌∙◌, arith}
+use Rattle.std.proofs.Common.{◌≡◌, ℕ, zero, suc, ◌+◌, ◌<◌, ◌≤◌, Bool, true, false, cond, refl, ap, ◌∙◌, arith}
 use Rattle.linear.specs.Loops.{Tried, steps, down, first, tries}
-use Rattle.linear.proofs.Loops.{true_false}
 
 pub steps-both :
     {W : Type 0} (R : W → W → Type 0) (f g : ℕ → W → W) (n i e : ℕ) (w v : W) → i + n ≡ e → R w v →
@@ -36,8 +35,8 @@ tries-both {W} R f (suc n) i e w v s h turn =
     go :
         {s t p q : Tried W} (b d : Bool) → Both R s t → b ≡ d → Both R p q → Both R (cond b p s) (cond d q t)
     go true true one e rest = rest
-    go true false one e rest = true_false e
-    go false true one e rest = true_false (sym e)
+    go true false one e rest = cc
+    go false true one e rest = cc
     go false false one e rest = one
 
 pub first-both : (p q : ℕ → Bool) (n i e : ℕ) → i + n ≡ e → ((k : ℕ) → i ≤ k → k < e → p k ≡ q k) → first p n i ≡ first q n i

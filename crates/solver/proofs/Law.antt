@@ -1,5 +1,5 @@
 -- What the answer and what is left come to: by the theory of linear systems, in every exact arithmetic. Assumes nothing.
-use Rattle.std.proofs.Common.{◌≡◌, ℕ, ◌-◌, ◌<◌, ◌≤◌, Bool, true, false, cond, T, leb, List, length, is_ok, Err, Result, sym, refl, ap, ◌∙◌, subst, ap₂, arith, le-leb, leb-true}
+use Rattle.std.proofs.Common.{◌≡◌, ℕ, ◌-◌, ◌<◌, ◌≤◌, Bool, true, false, cond, T, List, length, is_ok, Err, Result, sym, refl, ap, ◌∙◌, subst, ap₂, arith}
 use Rattle.std.proofs.lemmas.Grind.{common_steps}
 use Rattle.std.specs.Prelude.{MatchOption, Option, Some, None}
 use Rattle.linear.specs.Loops.{first}
@@ -13,10 +13,6 @@ use Rattle.linear.proofs.Outside.{solved_stays}
 use Rattle.solver.specs.declared.Unsolved.{Unsolved}
 use Rattle.solver.specs.declared.Unsolved.TheVariants.{NoRoom, NoPivot}
 use Rattle.solver.specs.Answer.{fits, answered, answer, leaves, below}
-
-true_if : (b c : Bool) → cond b c false ≡ true → (b ≡ true) × (c ≡ true)
-true_if true c e = (refl, e)
-true_if false c e = cc
 
 ok_both : (a b : Bool) → is_ok (answered a b) ≡ true → (a ≡ true) × (b ≡ true)
 ok_both false b e = cc
@@ -41,11 +37,6 @@ pivot_both false b e = cc
 pivot_both true false e = (refl, refl)
 pivot_both true true e = cc
 
--- where there is room, no answer says that there is none
-pub roomy : {A : Type 0} (r : Result (Unit {0}) Unsolved) (b : Bool) → r ≡ answered true b → r ≡ Err NoRoom → A
-roomy r false e h = cc
-roomy r true e h = cc
-
 -- all that the public call promises
 abbrev pub Promise : {M : Type 0} → Ops M → Bool → ℕ → ℕ → List M → List M → Type 0 → Result (Unit {0}) Unsolved → Type 0
 Promise o exact n places w v same r = record {
@@ -61,18 +52,18 @@ Promise o exact n places w v same r = record {
 
 module _ {M : Type 0} (o : Ops M) (n : ℕ) (w : List M) where
   room : fits n (length w) ≡ true → (n ≤ 15) × (304 ≤ length w)
-  room e = let b = true_if (leb n 15) (leb 304 (length w)) e in (leb-true n 15 b.0, leb-true 304 (length w) b.1)
+  room e = (grind (arith, common_steps), grind (arith, common_steps))
 
-  pub no_room_is : fits n (length w) ≡ false → (Err NoRoom ≡ answer o n w) × (w ≡ leaves o n w)
+  no_room_is : fits n (length w) ≡ false → (answer o n w ≡ Err NoRoom) × (leaves o n w ≡ w)
   unfolding answer leaves
-  no_room_is e = (sym (ap (λ (b : Bool). answered b (solved o n w).ok) e), sym (ap (λ (b : Bool). cond b (solved o n w).left w) e))
+  no_room_is e = (ap (λ (b : Bool). answered b (solved o n w).ok) e, ap (λ (b : Bool). cond b (solved o n w).left w) e)
 
-  pub room_is : fits n (length w) ≡ true → (answer o n w ≡ answered true (solved o n w).ok) × (leaves o n w ≡ (solved o n w).left)
+  room_is : fits n (length w) ≡ true → (answer o n w ≡ answered true (solved o n w).ok) × (leaves o n w ≡ (solved o n w).left)
   unfolding answer leaves
   room_is e = (ap (λ (b : Bool). answered b (solved o n w).ok) e, ap (λ (b : Bool). cond b (solved o n w).left w) e)
 
   pub with_room : n ≤ 15 → 304 ≤ length w → (answer o n w ≡ answered true (solved o n w).ok) × (leaves o n w ≡ (solved o n w).left)
-  with_room hn long = room_is (ap₂ (λ (a b : Bool). cond a b false) (le-leb n 15 hn) (le-leb 304 (length w) long))
+  with_room hn long = room_is (grind (arith, common_steps))
 
   stays : (v : List M) → v ≡ leaves o n w → (k : ℕ) → Outside n k → member o v k ≡ member o w k
   unfolding leaves
@@ -110,7 +101,7 @@ module _ {M : Type 0} (o : Ops M) (n : ℕ) (w : List M) where
     granted f z = let s = room f in ap is_ok (e ∙ ap₂ answered f ((linear_systems laws).granted n w s.0 s.1 z))
 
   -- the promise follows from the answer and what is left
-  pub promise :
+  promise :
       (exact : Bool) (places : ℕ) (v : List M) (same : Type 0) (r : Result (Unit {0}) Unsolved) → (T exact → Exact o) → length w ≡ places →
       r ≡ answer o n w → v ≡ leaves o n w → (r ≡ Err NoRoom → same) → Promise o exact n places w v same r
   promise exact places v same r laws long e l a = record {
@@ -123,3 +114,23 @@ module _ {M : Type 0} (o : Ops M) (n : ℕ) (w : List M) where
     granted = λ t f. granted (laws t) r e (ap (fits n) long ∙ f);
     singular = λ t. singular (laws t) r e;
   }
+
+  -- so it does where there is no room
+  pub no_room :
+      (exact : Bool) (places : ℕ) (same : Type 0) → (T exact → Exact o) → length w ≡ places → fits n places ≡ false → same →
+      Promise o exact n places w w same (Err NoRoom)
+  no_room exact places same laws long e a =
+      let way = no_room_is (ap (fits n) long ∙ e) in
+      promise exact places w same (Err NoRoom) laws long (sym way.0) (sym way.1) (λ _. a)
+
+  -- and where there is
+  pub tried :
+      (exact : Bool) (places : ℕ) (v : List M) (same : Type 0) (r : Result (Unit {0}) Unsolved) → (T exact → Exact o) → length w ≡ places →
+      fits n places ≡ true → r ≡ answered true (solved o n w).ok → v ≡ (solved o n w).left → Promise o exact n places w v same r
+  tried exact places v same r laws long e a l =
+      let way = room_is (ap (fits n) long ∙ e) in
+      promise exact places v same r laws long (a ∙ sym way.0) (l ∙ sym way.1) (some_room (solved o n w).ok a)
+    where
+      some_room : (b : Bool) → r ≡ answered true b → r ≡ Err NoRoom → same
+      some_room true e h = cc
+      some_room false e h = cc

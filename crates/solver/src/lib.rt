@@ -1,10 +1,11 @@
 // Linear systems of at most 15 unknowns over any arithmetic, solved in place.
 #![tactic(auto, using(linear::proofs::Turns::turns))]
 
-ghost use Rattle.std.specs.Prelude.{◌≡◌, ℕ, ◌<◌, true, T, map, length, is_ok, Err};
-ghost use Rattle.linear.specs.Elimination.{lose_entry, lose_row, clear, swap_entry, swap_rows, eliminate_column, eliminate, lose_found, divide, back_row, back, solved};
+ghost use Rattle.std.specs.Prelude.{◌≡◌, ℕ, ◌<◌, true, T, map, length, is_ok, Err, slice_set};
+ghost use Rattle.linear.specs.Elimination.{cell, entry, lose_entry, lose_row, clear, swap_entry, swap_rows, eliminate_column, eliminate, lose_found, divide, back_row, back, solved};
 ghost use Rattle.linear.specs.Inside.{Outside};
 ghost use Rattle.linear.specs.Systems.{member, Solution, TrivialKernel, Singular, found};
+ghost use Rattle.solver.specs.System.{Becomes};
 ghost use Rattle.solver.specs.Answer.{fits, answered, answer, leaves, pivot};
 
 use arithmetic::{Arithmetic, may_divide};
@@ -24,123 +25,144 @@ pub enum Unsolved {
     NoPivot,
 }
 
-// The lower row's entry in a column loses factor × the upper row's.
-fn lose_entry<N: Arithmetic>(work: &mut [N], upper: u32, lower: u32, factor: N, column: u32)
-    ensures { map N.mean work.new ≡ lose_entry N.ops upper lower (N.mean factor) column (map N.mean work.old) }
-{
-    let lost = factor.product(get(work, place(upper, column)));
-    let rest = get(work, place(lower, column)).difference(lost);
-    put(work, place(lower, column), rest);
-}
-
-// A row loses entry / pivot × the pivot's row, from the pivot's column to the right side.
-fn lose_row<N: Arithmetic>(work: &mut [N], unknowns: u32, pivot: u32, row: u32)
-    ensures { map N.mean work.new ≡ lose_row N.ops unknowns pivot row (map N.mean work.old) }
-{
-    let factor = get(work, place(row, pivot)).quotient(get(work, place(pivot, pivot)));
-    for column in pivot..=unknowns {
-        lose_entry(work, pivot, row, factor, column);
-    }
-}
-
-// Every row below the pivot's loses its multiple of it, in turn.
-fn clear_below<N: Arithmetic>(work: &mut [N], unknowns: u32, pivot: u32)
-    requires { pivot < unknowns }
-    ensures { map N.mean work.new ≡ clear N.ops unknowns pivot (map N.mean work.old) }
-{
-    for row in pivot + 1..unknowns {
-        lose_row(work, unknowns, pivot, row);
-    }
-}
-
-// Two rows' entries in a column change places.
-fn swap_entry<N: Arithmetic>(work: &mut [N], upper: u32, lower: u32, column: u32)
-    ensures { map N.mean work.new ≡ swap_entry N.ops upper lower column (map N.mean work.old) }
-{
-    let above = get(work, place(upper, column));
-    let below = get(work, place(lower, column));
-    put(work, place(upper, column), below);
-    put(work, place(lower, column), above);
-}
-
-// Two whole rows change places, their right sides too.
-fn swap_rows<N: Arithmetic>(work: &mut [N], unknowns: u32, upper: u32, lower: u32)
-    ensures { map N.mean work.new ≡ swap_rows N.ops unknowns upper lower (map N.mean work.old) }
-{
-    for column in 0..=unknowns {
-        swap_entry(work, upper, lower, column);
-    }
-}
-
-// The first row at or below a column's own whose entry may be divided by.
-fn pivot_row<N: Arithmetic>(work: &[N], unknowns: u32, column: u32) -> Option<u32>
-    ensures { result ≡ pivot N.ops unknowns column (map N.mean work.now) }
-{
-    (column..unknowns).find(|row| may_divide(get(work, place(*row, column))))
-}
-
-// Swaps the pivot's row up and clears the rows below. Nothing changes where the column has no pivot.
-fn eliminate_column<N: Arithmetic>(
-    work: &mut [N],
+// A system of so many unknowns, and the lent places where it stands.
+#[derive(Drop)]
+struct System<'a, N> {
+    work: &'a mut [N],
     unknowns: u32,
-    column: u32,
-) -> Result<(), Unsolved>
-    requires { column < unknowns }
-    ensures answer { result ≡ answered true (eliminate_column N.ops unknowns column (map N.mean work.old)).ok }
-    ensures left { map N.mean work.new ≡ (eliminate_column N.ops unknowns column (map N.mean work.old)).left }
-{
-    let pivot = pivot_row(work, unknowns, column).ok_or(Unsolved::NoPivot)?;
-    swap_rows(work, unknowns, column, pivot);
-    clear_below(work, unknowns, column);
-    Ok(())
 }
 
-// The columns in turn, as long as each has a pivot.
-fn eliminate_all<N: Arithmetic>(work: &mut [N], unknowns: u32) -> Result<(), Unsolved>
-    ensures answer { result ≡ answered true (eliminate N.ops unknowns (map N.mean work.old)).ok }
-    ensures left { map N.mean work.new ≡ (eliminate N.ops unknowns (map N.mean work.old)).left }
-{
-    for column in 0..unknowns {
-        eliminate_column(work, unknowns, column)?;
+impl<N: Arithmetic> System<'_, N> {
+    // What stands in a row and a column.
+    fn read(&self, row: u32, column: u32) -> N
+        ensures { N.mean result ≡ entry N.ops (map N.mean self.now.work.now) row column }
+    {
+        get(self.work, place(row, column))
     }
-    Ok(())
-}
 
-// A row's right side loses entry × found value in a column.
-fn lose_found<N: Arithmetic>(work: &mut [N], unknowns: u32, row: u32, column: u32)
-    ensures { map N.mean work.new ≡ lose_found N.ops unknowns row column (map N.mean work.old) }
-{
-    let lost = get(work, place(row, column)).product(get(work, place(column, unknowns)));
-    let rest = get(work, place(row, unknowns)).difference(lost);
-    put(work, place(row, unknowns), rest);
-}
-
-// A row's right side is divided by the pivot: the found value stands in its place.
-fn divide_row<N: Arithmetic>(work: &mut [N], unknowns: u32, row: u32)
-    ensures { map N.mean work.new ≡ divide N.ops unknowns row (map N.mean work.old) }
-{
-    let right = get(work, place(row, unknowns));
-    let found = right.quotient(get(work, place(row, row)));
-    put(work, place(row, unknowns), found);
-}
-
-// Finds a row's unknown from those of the rows below, columns ascending.
-fn back_row<N: Arithmetic>(work: &mut [N], unknowns: u32, row: u32)
-    requires { row < unknowns }
-    ensures { map N.mean work.new ≡ back_row N.ops unknowns row (map N.mean work.old) }
-{
-    for column in row + 1..unknowns {
-        lose_found(work, unknowns, row, column);
+    fn write(&mut self, row: u32, column: u32, value: N)
+        ensures { Becomes N.mean (λ w. slice_set w (cell row column) (N.mean value)) self.old self.new }
+    {
+        put(self.work, place(row, column), value);
     }
-    divide_row(work, unknowns, row);
-}
 
-// Back substitution, from the last row up.
-fn back_all<N: Arithmetic>(work: &mut [N], unknowns: u32)
-    ensures { map N.mean work.new ≡ back N.ops unknowns (map N.mean work.old) }
-{
-    for row in (0..unknowns).rev() {
-        back_row(work, unknowns, row);
+    // The lower row's entry in a column loses factor × the upper row's.
+    fn lose_entry(&mut self, upper: u32, lower: u32, factor: N, column: u32)
+        ensures { Becomes N.mean (lose_entry N.ops upper lower (N.mean factor) column) self.old self.new }
+    {
+        let lost = factor.product(self.read(upper, column));
+        let rest = self.read(lower, column).difference(lost);
+        self.write(lower, column, rest);
+    }
+
+    // A row loses entry / pivot × the pivot's row, from the pivot's column to the right side.
+    fn lose_row(&mut self, pivot: u32, row: u32)
+        ensures { Becomes N.mean (lose_row N.ops self.old.unknowns pivot row) self.old self.new }
+    {
+        let factor = self.read(row, pivot).quotient(self.read(pivot, pivot));
+        for column in pivot..=self.unknowns {
+            self.lose_entry(pivot, row, factor, column);
+        }
+    }
+
+    // Every row below the pivot's loses its multiple of it, in turn.
+    fn clear_below(&mut self, pivot: u32)
+        requires { pivot < self.old.unknowns }
+        ensures { Becomes N.mean (clear N.ops self.old.unknowns pivot) self.old self.new }
+    {
+        let unknowns = self.unknowns;
+        for row in pivot + 1..unknowns {
+            self.lose_row(pivot, row);
+        }
+    }
+
+    // Two rows' entries in a column change places.
+    fn swap_entry(&mut self, upper: u32, lower: u32, column: u32)
+        ensures { Becomes N.mean (swap_entry N.ops upper lower column) self.old self.new }
+    {
+        let above = self.read(upper, column);
+        let below = self.read(lower, column);
+        self.write(upper, column, below);
+        self.write(lower, column, above);
+    }
+
+    // Two whole rows change places, their right sides too.
+    fn swap_rows(&mut self, upper: u32, lower: u32)
+        ensures { Becomes N.mean (swap_rows N.ops self.old.unknowns upper lower) self.old self.new }
+    {
+        for column in 0..=self.unknowns {
+            self.swap_entry(upper, lower, column);
+        }
+    }
+
+    // The first row at or below a column's own whose entry may be divided by.
+    fn pivot_row(&self, column: u32) -> Option<u32>
+        ensures { result ≡ pivot N.ops self.now.unknowns column (map N.mean self.now.work.now) }
+    {
+        (column..self.unknowns).find(|row| may_divide(self.read(*row, column)))
+    }
+
+    // Swaps the pivot's row up and clears the rows below. Nothing changes where the column has no pivot.
+    fn eliminate_column(&mut self, column: u32) -> Result<(), Unsolved>
+        requires { column < self.old.unknowns }
+        ensures answer { result ≡ answered true (eliminate_column N.ops self.old.unknowns column (map N.mean self.old.work.now)).ok }
+        ensures left { Becomes N.mean (λ w. (eliminate_column N.ops self.old.unknowns column w).left) self.old self.new }
+    {
+        let pivot = self.pivot_row(column).ok_or(Unsolved::NoPivot)?;
+        self.swap_rows(column, pivot);
+        self.clear_below(column);
+        Ok(())
+    }
+
+    // The columns in turn, as long as each has a pivot.
+    fn eliminate_all(&mut self) -> Result<(), Unsolved>
+        ensures answer { result ≡ answered true (eliminate N.ops self.old.unknowns (map N.mean self.old.work.now)).ok }
+        ensures left { Becomes N.mean (λ w. (eliminate N.ops self.old.unknowns w).left) self.old self.new }
+    {
+        for column in 0..self.unknowns {
+            self.eliminate_column(column)?;
+        }
+        Ok(())
+    }
+
+    // A row's right side loses entry × found value in a column.
+    fn lose_found(&mut self, row: u32, column: u32)
+        ensures { Becomes N.mean (lose_found N.ops self.old.unknowns row column) self.old self.new }
+    {
+        let right = self.unknowns;
+        let lost = self.read(row, column).product(self.read(column, right));
+        let rest = self.read(row, right).difference(lost);
+        self.write(row, right, rest);
+    }
+
+    // A row's right side is divided by the pivot: the found value stands in its place.
+    fn divide_row(&mut self, row: u32)
+        ensures { Becomes N.mean (divide N.ops self.old.unknowns row) self.old self.new }
+    {
+        let right = self.unknowns;
+        let found = self.read(row, right).quotient(self.read(row, row));
+        self.write(row, right, found);
+    }
+
+    // Finds a row's unknown from those of the rows below, columns ascending.
+    fn back_row(&mut self, row: u32)
+        requires { row < self.old.unknowns }
+        ensures { Becomes N.mean (back_row N.ops self.old.unknowns row) self.old self.new }
+    {
+        let unknowns = self.unknowns;
+        for column in row + 1..unknowns {
+            self.lose_found(row, column);
+        }
+        self.divide_row(row);
+    }
+
+    // Back substitution, from the last row up.
+    fn back_all(&mut self)
+        ensures { Becomes N.mean (back N.ops self.old.unknowns) self.old self.new }
+    {
+        for row in (0..self.unknowns).rev() {
+            self.back_row(row);
+        }
     }
 }
 
@@ -149,8 +171,9 @@ fn attempt<N: Arithmetic>(work: &mut [N], unknowns: u32) -> Result<(), Unsolved>
     ensures answer { result ≡ answered true (solved N.ops unknowns (map N.mean work.old)).ok }
     ensures left { map N.mean work.new ≡ (solved N.ops unknowns (map N.mean work.old)).left }
 {
-    eliminate_all(work, unknowns)?;
-    back_all(work, unknowns);
+    let mut system = System { work, unknowns };
+    system.eliminate_all()?;
+    system.back_all();
     Ok(())
 }
 
