@@ -1,5 +1,5 @@
 -- What the tree's call answers, from what is found.
-use Rattle.std.proofs.Common.{◌≡◌, ℕ, Some, None, ap, ◌∙◌}
+use Rattle.std.proofs.Common.{◌≡◌, ℕ, Bool, cond, is_some, Some, None, Option, IfSome, ap, ◌∙◌}
 use Rattle.sheet.specs.declared.plan.Plan.{Plan}
 use Rattle.sheet.specs.declared.refusal.Shown.{Shown}
 use Rattle.sheet.specs.Refusals.{Answer, granted, refused, shown_of}
@@ -48,3 +48,8 @@ module _ (p : Plan) (tree : ℕ) (kept : bits tree ≡ tree_set p) where
 pub cut-shown : (p : Plan) (q k x : ℕ) (s : Shown) → bits q ≡ no_currents p → x ≡ (graph_of p).tail k → s ≡ cut_from (graph_of p) (bits q) x → s ≡ current_cut p k
 unfolding current_cut
 cut-shown p q k x s is at e = e ∙ (λ i. cut_from (graph_of p) (is i) (at i))
+
+-- a row that is shown where a test holds
+pub shown_if : (o : Option Shown) (b : Bool) (s : Shown) → is_some o ≡ b → IfSome o (λ x. x ≡ s) → o ≡ cond b (Some s) None
+shown_if None b s is h = ap (λ t. cond t (Some s) None) is
+shown_if (Some x) b s is h = ap Some h ∙ ap (λ t. cond t (Some s) None) is

@@ -1,25 +1,25 @@
 -- The lowest member of a set.
-use Rattle.std.proofs.Common.{◌≡◌, ℕ, zero, suc, ◌+◌, ◌-◌, ◌<◌, ◌≤◌, Bool, true, false, cond, ◌⊎◌, Some, None, sym, refl, ap, ◌∙◌, inl, inr, add-one, arith}
+use Rattle.std.proofs.Common.{◌≡◌, ℕ, zero, suc, ◌+◌, ◌<◌, ◌≤◌, Bool, true, false, cond, ◌⊎◌, Some, None, Option, MatchOption, sym, refl, ap, ◌∙◌, inl, inr, arith}
 use Rattle.std.proofs.lemmas.Bool.{cond-true, cond-false, cases_eq}
 use Rattle.graphs.specs.Graph.{Set, ◌∈◌}
 use Rattle.topology.specs.Words.{first_from}
 
--- at the number k, with those up to n left
-pub first_in : (S : Set) (k n : ℕ) → k < n → k ∈ S → first_from S k (n - k) ≡ Some k
-unfolding first_from
-first_in S k n lt m =
-    let e : n - k ≡ suc (n - suc k) = omega arith in
-    ap (first_from S k) e ∙ cond-true (S k) (Some k) (first_from S (suc k) (n - suc k)) m
+-- what is found: none if no number from k on is in the set, and else the lowest that is
+abbrev pub Finds : Set → ℕ → ℕ → Option ℕ → Type 0
+Finds S k n r = MatchOption r ((j : ℕ) → k ≤ j → j < k + n → S j ≡ false) (λ i. (k ≤ i) × (i < k + n) × (i ∈ S) × ((j : ℕ) → k ≤ j → j < i → S j ≡ false))
 
-pub first_out : (S : Set) (k n : ℕ) → k < n → S k ≡ false → first_from S k (n - k) ≡ first_from S (k + 1) (n - (k + 1))
+pub is_first : (S : Set) (k n : ℕ) (r : Option ℕ) → Finds S k n r → r ≡ first_from S k n
 unfolding first_from
-first_out S k n lt m =
-    let e : n - k ≡ suc (n - suc k) = omega arith in
-    ap (first_from S k) e ∙ cond-false (S k) (Some k) (first_from S (suc k) (n - suc k)) m ∙ ap (λ j. first_from S j (n - j)) (sym (add-one k))
-
-pub first_end : (S : Set) (k n : ℕ) → n ≤ k → first_from S k (n - k) ≡ None
-unfolding first_from
-first_end S k n le = let e : n - k ≡ zero = omega arith in ap (first_from S k) e
+is_first S k zero None h = refl
+is_first S k zero (Some i) h = absurd (omega (arith, h.0, h.1))
+is_first S k (suc n) None h = is_first S (suc k) n None (λ j le lt. h j (omega arith) (omega arith)) ∙ sym (cond-false (S k) (Some k) (first_from S (suc k) n) (h k (omega arith) (omega arith)))
+is_first S k (suc n) (Some i) h = go (cases_eq k i) (is_first S (suc k) n (Some i))
+  where
+    go : (k ≡ i) ⊎ (k ≡ i → ⊥) → (Finds S (suc k) n (Some i) → Some i ≡ first_from S (suc k) n) → Some i ≡ first_from S k (suc n)
+    go (inl e) ih = sym (cond-true (S k) (Some k) (first_from S (suc k) n) (ap S e ∙ h.2) ∙ ap Some e)
+    go (inr ne) ih =
+        ih (omega (arith, h.0), omega (arith, h.1), h.2, λ j le lt. h.3 j (omega arith) lt)
+        ∙ sym (cond-false (S k) (Some k) (first_from S (suc k) n) (h.3 k (omega arith) (omega (arith, h.0))))
 
 -- what is found is a member
 pub first_member : (S : Set) (k n j : ℕ) → first_from S k n ≡ Some j → (j ∈ S) × (j < k + n)

@@ -1,9 +1,10 @@
 -- Rows that are gathered place by place.
-use Rattle.std.proofs.Common.{◌≡◌, ℕ, ◌+◌, sym, refl, ap, arith}
+use Rattle.std.proofs.Common.{◌≡◌, ℕ, ◌+◌, ◌^◌, ◌<◌, cond, sym, refl, ap, arith}
 use Rattle.sheet.specs.declared.refusal.Shown.{Shown}
 use Rattle.graphs.specs.Cuts.{cut_row}
-use Rattle.graphs.specs.Graph.{Graph, Set, without, Sign}
-use Rattle.topology.specs.Rows.{marks, backs, shown, cut_from, Extended, Gathered}
+use Rattle.graphs.specs.Graph.{Graph, Set, with, without, Sign}
+use Rattle.topology.specs.Rows.{marks, backs, shown, cut_from, Gathered}
+use Rattle.topology.specs.Words.{bits}
 use Rattle.topology.proofs.Bits.{gathers, under_none, is_word}
 
 -- the cut of the tail's side is the cut row
@@ -19,12 +20,14 @@ gathered_none f = record {
   against_fit = omega arith;
 }
 
-pub gathered_more : (f : ℕ → Sign) (k : ℕ) (s r : Shown) (x : Sign) → Gathered f k s → x ≡ f k → Extended s k x r → Gathered f (k + 1) r
-gathered_more f k s r x before is more = record {
-  members = gathers (λ j. marks (f j)) k r.members s.members (marks x) before.members (ap marks is) more.members;
-  against = gathers (λ j. backs (f j)) k r.against s.against (backs x) before.against (ap backs is) more.against;
-  members-fit = more.members-fit;
-  against_fit = more.against_fit;
+pub gathered_more : (f : ℕ → Sign) (k m a : ℕ) (s : Shown) (x : Sign) → Gathered f k s → x ≡ f k → m < 2 ^ 32 → a < 2 ^ 32
+    → bits m ≡ cond (marks x) (with (bits s.members) k) (bits s.members) → bits a ≡ cond (backs x) (with (bits s.against) k) (bits s.against)
+    → Gathered f (k + 1) (record { members = m; against = a })
+gathered_more f k m a s x before is fit fit' more back = record {
+  members = gathers (λ j. marks (f j)) k m s.members (marks x) before.members (ap marks is) more;
+  against = gathers (λ j. backs (f j)) k a s.against (backs x) before.against (ap backs is) back;
+  members-fit = fit;
+  against_fit = fit';
 }
 
 pub gathered-all : (f : ℕ → Sign) (s : Shown) → Gathered f 32 s → s ≡ shown f

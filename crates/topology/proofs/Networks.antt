@@ -1,15 +1,19 @@
 -- The graph of a plan: what a place says of it, and the labels of its nodes.
-use Rattle.std.proofs.Common.{◌≡◌, ℕ, zero, suc, ◌+◌, ◌<◌, Bool, true, false, cond, ◌&&◌, eqb, ltb, List, [], ◌∷◌, map, length, get_or, is_some, Some, None, Option, sym, refl, ap, ◌∙◌, subst, add-zero, zero-add, add-one, arith}
+use Rattle.std.proofs.Common.{◌≡◌, ℕ, zero, suc, ◌+◌, ◌<◌, Bool, true, false, cond, not, ◌&&◌, eqb, ltb, List, [], ◌∷◌, map, length, get_or, is_some, Some, None, Option, MatchOption, ◌↔◌, leb, sym, refl, ap, ◌∙◌, subst, add-zero, zero-add, add-one, arith}
 use Rattle.std.proofs.lemmas.List.{length-map, get_or-map}
-use Rattle.std.proofs.lemmas.Bool.{lt-ltb, ltb-true, and_parts, eq-eqb, ne_eqb, cond-true, cond-false}
+use Rattle.std.proofs.lemmas.Bool.{lt-ltb, ltb-true, and_parts, eq-eqb, ne_eqb, cond-true, cond-false, both_ways}
+use mathlib.Core.Path.{fun_ext}
 use Rattle.sheet.specs.declared.branch.Branch.{Branch}
+use Rattle.sheet.specs.declared.kind.Kind.{Kind}
+use Rattle.sheet.specs.declared.kind.Kind.TheVariants.{Resistor, Inductor, Capacitor, VoltageSource, CurrentSource}
 use Rattle.sheet.specs.declared.plan.Plan.{Plan}
 use Rattle.sheet.specs.Plans.{branch_at}
 use Rattle.graphs.specs.Cuts.{diff, turned, leaves, side, cut_row, loop_row}
 use Rattle.graphs.specs.Graph.{Graph, Set, ◌∈◌, without, both, Below, plus, none}
 use Rattle.graphs.specs.Labels.{label, merge, joins}
 use Rattle.graphs.proofs.Labels.{label_in, label_out}
-use Rattle.topology.specs.Networks.{class_of, tail_of, head_of, class_found, graph_of, placed, class_at, Labelled, alike}
+use Rattle.graphs.specs.Greedy.{up_to, of_class}
+use Rattle.topology.specs.Networks.{kind_class, passes, among, class_of, tail_of, head_of, class_found, graph_of, placed, class_at, Labelled, alike}
 
 pub placed_below : (p : Plan) → Below 32 (placed p)
 unfolding placed
@@ -29,6 +33,76 @@ class_none p k test e = go (ltb k 32) ∙ ap (λ o. (ltb k 32 && is_some o) && t
     go : (b : Bool) → false ≡ (b && false) && test 5
     go true = refl
     go false = refl
+
+-- the kinds by class
+abbrev pub kinds : List Kind
+kinds = VoltageSource ∷ Capacitor ∷ Resistor ∷ Inductor ∷ CurrentSource ∷ []
+
+kind_at : (kind : Kind) → get_or kinds (kind_class kind) VoltageSource ≡ kind
+kind_at Resistor = refl
+kind_at Inductor = refl
+kind_at Capacitor = refl
+kind_at VoltageSource = refl
+kind_at CurrentSource = refl
+
+pub class_order : (n : ℕ) (d : Kind) → n < 5 → kind_class (get_or kinds n d) ≡ n
+class_order zero d h = refl
+class_order (suc zero) d h = refl
+class_order (suc (suc zero)) d h = refl
+class_order (suc (suc (suc zero))) d h = refl
+class_order (suc (suc (suc (suc zero)))) d h = refl
+class_order (suc (suc (suc (suc (suc n))))) d h = absurd (omega arith)
+
+same_kind : (x y : Kind) → kind_class x ≡ kind_class y → x ≡ y
+same_kind x y e = sym (kind_at x) ∙ ap (λ n. get_or kinds n VoltageSource) e ∙ kind_at y
+
+-- a test of a kind for another
+pub kind_is : (x y : Kind) (r : Bool) → (r ≡ true ↔ x ≡ y) → r ≡ eqb (kind_class x) (kind_class y)
+kind_is x y true h = sym (eq-eqb _ _ (ap kind_class (h.0 refl)))
+kind_is x y false h = sym (ne_eqb _ _ (λ same. both_ways false refl (h.1 (same_kind x y same))))
+
+-- a test of what stands at a place for one kind
+pub kind_found : (p : Plan) (k : ℕ) (kind : Kind) (o : Option Branch) (r : Bool) → k < 32 → o ≡ branch_at p k → MatchOption o (r ≡ false) (λ b. r ≡ true ↔ b.kind ≡ kind) → r ≡ of_class (class_at p) (kind_class kind) (placed p) k
+kind_found p k kind None r lt e h = h ∙ class_none p k (λ n. eqb n (kind_class kind)) e
+kind_found p k kind (Some b) r lt e h = kind_is b.kind kind r h ∙ class_some p k (λ n. eqb n (kind_class kind)) b lt e
+
+-- a test of the kind at a place
+pub kind_passes : (p : Plan) (k : ℕ) (test : Kind → Bool) (r : Bool) → k < 32 → MatchOption (branch_at p k) (r ≡ false) (λ b. r ≡ test b.kind) → r ≡ among test p k
+unfolding among
+kind_passes p k test r lt h = go (branch_at p k) h ∙ ap (λ t. t && passes test (branch_at p k)) (sym (lt-ltb k 32 lt))
+  where
+    go : (o : Option Branch) → MatchOption o (r ≡ false) (λ b. r ≡ test b.kind) → r ≡ passes test o
+    go None h = h
+    go (Some b) h = h
+
+pub among_below : (p : Plan) (test : Kind → Bool) → Below 32 (among test p)
+unfolding among
+among_below p test k m = ltb-true k 32 (and_parts (ltb k 32) (passes test (branch_at p k)) m).0
+
+-- the classes up to c, by a test of kinds
+pub among_up_to : (p : Plan) (test : Kind → Bool) (c : ℕ) → ((kind : Kind) → test kind ≡ leb (kind_class kind) c) → among test p ≡ up_to (class_at p) c (placed p)
+unfolding among placed class_at
+among_up_to p test c same = fun_ext (λ k. go (ltb k 32) (branch_at p k))
+  where
+    go : (b : Bool) (o : Option Branch) → (b && passes test o) ≡ ((b && is_some o) && leb (class_found o) c)
+    go false o = refl
+    go true None = refl
+    go true (Some b) = same b.kind
+
+-- the first class alone, and all but the last
+pub voltage_low : (kind : Kind) → eqb (kind_class kind) 0 ≡ leb (kind_class kind) 0
+voltage_low Resistor = refl
+voltage_low Inductor = refl
+voltage_low Capacitor = refl
+voltage_low VoltageSource = refl
+voltage_low CurrentSource = refl
+
+pub no_current_low : (kind : Kind) → not (eqb (kind_class kind) 4) ≡ leb (kind_class kind) 3
+no_current_low Resistor = refl
+no_current_low Inductor = refl
+no_current_low Capacitor = refl
+no_current_low VoltageSource = refl
+no_current_low CurrentSource = refl
 
 node_tail : (o : Option Branch) → tail_of o < 16
 node_tail None = omega arith

@@ -5,9 +5,8 @@
 -- backs        minus
 -- shown f      the row f: the word of its members, and that of those with minus
 -- cut_from     the cut of the nodes that the members of S join with the node x
--- Extended     a row with the sign x at the place k besides
 -- Gathered     the members and those with minus, as far as the places below n go
-use Rattle.std.specs.Prelude.{◌≡◌, ℕ, ◌^◌, ◌<◌, Bool, true, false, cond}
+use Rattle.std.specs.Prelude.{◌≡◌, ℕ, ◌^◌, ◌<◌, Bool, true, false}
 use Rattle.graphs.specs.Cuts.{leaves}
 use Rattle.graphs.specs.Graph as graphs
 use Rattle.graphs.specs.Graph.{Graph, Set, plus, none, minus, with}
@@ -37,12 +36,6 @@ shown f = record { members = word (λ k. marks (f k)); against = word (λ k. bac
 
 unfoldable pub cut_from : Graph → Set → ℕ → Shown
 cut_from g S x = shown (leaves g (joins g S 32 x))
-
-pub record Extended (s : Shown) (k : ℕ) (x : graphs.Sign) (r : Shown) : Type 0 where
-  pub members : bits r.members ≡ cond (marks x) (with (bits s.members) k) (bits s.members)
-  pub against : bits r.against ≡ cond (backs x) (with (bits s.against) k) (bits s.against)
-  pub members-fit : r.members < 2 ^ 32
-  pub against_fit : r.against < 2 ^ 32
 
 pub record Gathered (f : ℕ → graphs.Sign) (n : ℕ) (s : Shown) : Type 0 where
   pub members : bits s.members ≡ under (λ k. marks (f k)) n

@@ -7,10 +7,10 @@ ghost use Rattle.topology.specs.Matrices.{Matrices};
 ghost use Rattle.topology.specs.Meanings.{TreeAnswer, LoopAnswer, CutAnswer, IncidenceAnswer};
 ghost use Rattle.topology.specs.Networks.{graph_of};
 ghost use Rattle.topology.specs.Rows.{sign_of};
-ghost use Rattle.topology.specs.Trees.{tree_of, loop_row_of, cut_row_of, loop_of, cut_of};
+ghost use Rattle.topology.specs.Trees.{tree_of, loop_row_of, cut_row_of};
 
 use crate::keeping::kept_branches;
-use crate::network::{head, is_placed, tail, up_to};
+use crate::network::{head, is_placed, no_current_sources, tail, voltage_sources};
 use crate::rows::{cut, cut_of_branch, difference, loop_along};
 use crate::sign::Sign;
 use crate::words::{common, has, less, lowest};
@@ -22,9 +22,8 @@ pub fn tree(plan: &Plan) -> Result<u32, Refusal>
     ensures meaning { TreeAnswer plan.now (told result) }
 {
     let kept = kept_branches(plan);
-    // Class 0 is the voltage sources, and classes 0 to 3 are all but the current sources.
-    let voltages = up_to(plan, 0);
-    let no_currents = up_to(plan, 3);
+    let voltages = voltage_sources(plan);
+    let no_currents = no_current_sources(plan);
     if let Some(k) = lowest(less(voltages, kept)) {
         return Err(Refusal::VoltageLoop(loop_along(plan, common(kept, voltages), k)));
     }
@@ -40,17 +39,8 @@ pub fn loop_row(plan: &Plan, number: u32) -> Result<Option<Shown>, Refusal>
     ensures meaning { LoopAnswer plan.now number (told result) }
 {
     let tree = tree(plan)?;
-    Ok(loop_of(plan, tree, number))
-}
-
-fn loop_of(plan: &Plan, tree: u32, number: u32) -> Option<Shown>
-    ensures { result ≡ loop_of plan.now tree number }
-{
-    if is_placed(plan, number) & !has(tree, number) {
-        Some(loop_along(plan, tree, number))
-    } else {
-        None
-    }
+    let is_link = is_placed(plan, number) && !has(tree, number);
+    Ok(is_link.then(|| loop_along(plan, tree, number)))
 }
 
 // The cut row of a tree branch; none for another number. Refused as the tree is.
@@ -59,17 +49,7 @@ pub fn cut_row(plan: &Plan, number: u32) -> Result<Option<Shown>, Refusal>
     ensures meaning { CutAnswer plan.now number (told result) }
 {
     let tree = tree(plan)?;
-    Ok(cut_of(plan, tree, number))
-}
-
-fn cut_of(plan: &Plan, tree: u32, number: u32) -> Option<Shown>
-    ensures { result ≡ cut_of plan.now tree number }
-{
-    if has(tree, number) {
-        Some(cut_of_branch(plan, tree, number))
-    } else {
-        None
-    }
+    Ok(has(tree, number).then(|| cut_of_branch(plan, tree, number)))
 }
 
 // Plus where the branch has its tail at the node, minus where it has its head there, else zero.
@@ -82,8 +62,6 @@ pub fn incidence(plan: &Plan, node: u32, branch: u32) -> Sign
 }
 
 // The rows of a granted tree as matrices, summed in any abelian group on `N`.
-pub fn row_laws<N>(plan: &Plan) -> u8
+pub fn row_laws<N>(plan: &Plan)
     ensures { (G : Group N) (w : ℕ) → tree_of plan.now ≡ granted w → Matrices G plan.now w }
-{
-    0
-}
+{}

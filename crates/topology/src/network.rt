@@ -1,34 +1,28 @@
-// A plan as a graph: the ends and the classes of its branches.
-ghost use Rattle.std.specs.Prelude.{◌≡◌, ◌<◌};
+// A plan as a graph: the ends and the kinds of its branches.
+ghost use Rattle.std.specs.Prelude.{◌≡◌, ◌<◌, Bool};
 ghost use Rattle.graphs.specs.Greedy.{up_to, of_class};
-ghost use Rattle.topology.specs.Networks.{class_of, graph_of, placed, class_at};
+ghost use Rattle.sheet.specs.declared.kind.Kind.{Kind};
+ghost use Rattle.topology.specs.Networks.{kind_class, graph_of, placed, class_at, among};
 ghost use Rattle.topology.specs.Words.{bits};
 
-use crate::words::insert_if;
-use sheet::{Branch, Kind, Plan};
+use crate::words::numbers_where;
+use sheet::{Kind, Plan};
 
-// Trees are looked for by class: voltage sources, capacitors, resistors, inductors, current sources.
-pub(crate) fn class(branch: Branch) -> u32
-    ensures { result ≡ class_of branch }
-{
-    match branch.kind {
-        Kind::VoltageSource => 0,
-        Kind::Capacitor => 1,
-        Kind::Resistor => 2,
-        Kind::Inductor => 3,
-        Kind::CurrentSource => 4,
-    }
-}
+// Trees are looked for by kind, in this order.
+pub(crate) const ORDER: [Kind; 5] = [
+    Kind::VoltageSource,
+    Kind::Capacitor,
+    Kind::Resistor,
+    Kind::Inductor,
+    Kind::CurrentSource,
+];
 
 // The node that a branch starts at; 0 where there is no branch.
 pub(crate) fn tail(plan: &Plan, k: u32) -> usize
     ensures is { result ≡ (graph_of plan.now).tail k }
     ensures node { result < 16 }
 {
-    match plan.at(k) {
-        Some(branch) => branch.ends.tail as usize,
-        None => 0,
-    }
+    plan.at(k).map_or(0, |branch| branch.ends.tail as usize)
 }
 
 // The node that a branch ends at; 0 where there is no branch.
@@ -36,48 +30,47 @@ pub(crate) fn head(plan: &Plan, k: u32) -> usize
     ensures is { result ≡ (graph_of plan.now).head k }
     ensures node { result < 16 }
 {
-    match plan.at(k) {
-        Some(branch) => branch.ends.head as usize,
-        None => 0,
-    }
+    plan.at(k).map_or(0, |branch| branch.ends.head as usize)
 }
 
 pub fn is_placed(plan: &Plan, k: u32) -> bool
     ensures { result ≡ placed plan.now k }
 {
-    if k > 31 {
-        return false;
-    }
-    plan.at(k).is_some()
+    k < 32 && plan.at(k).is_some()
 }
 
-pub(crate) fn is_of_class(plan: &Plan, wanted: u32, k: u32) -> bool
+pub(crate) fn is_of_kind(plan: &Plan, kind: Kind, k: u32) -> bool
     requires { k < 32 }
-    ensures { result ≡ of_class (class_at plan.now) wanted (placed plan.now) k }
+    ensures { result ≡ of_class (class_at plan.now) (kind_class kind) (placed plan.now) k }
 {
-    match plan.at(k) {
-        Some(branch) => class(branch) == wanted,
-        None => false,
-    }
+    plan.at(k).is_some_and(|branch| branch.kind == kind)
 }
 
-fn is_up_to(plan: &Plan, last: u32, k: u32) -> bool
-    requires { k < 32 }
-    ensures { result ≡ up_to (class_at plan.now) last (placed plan.now) k }
+// The branches whose kind passes.
+fn branches_where<F: Fn(Kind) -> bool>(plan: &Plan, passes: F) -> u32
+    requires { F.IsAlwaysCallable passes }
+    ensures { (test : Kind → Bool) → ((kind : Kind) (b : Bool) → F.post passes kind b → b ≡ test kind) → bits result ≡ among test plan.now }
 {
-    match plan.at(k) {
-        Some(branch) => class(branch) <= last,
-        None => false,
-    }
+    numbers_where(|k| plan.at(k).is_some_and(|branch| passes(branch.kind)))
 }
 
-// The branches of the classes up to the last one wanted.
-pub fn up_to(plan: &Plan, last: u32) -> u32
-    ensures { bits result ≡ up_to (class_at plan.now) last (placed plan.now) }
+// The voltage sources.
+pub fn voltage_sources(plan: &Plan) -> u32
+    ensures { bits result ≡ up_to (class_at plan.now) 0 (placed plan.now) }
 {
-    let mut word = 0;
-    for k in 0..32 {
-        word = insert_if(word, k, is_up_to(plan, last, k));
-    }
-    word
+    branches_where(plan, |kind| kind == Kind::VoltageSource)
+}
+
+// All branches but the current sources.
+pub fn no_current_sources(plan: &Plan) -> u32
+    ensures { bits result ≡ up_to (class_at plan.now) 3 (placed plan.now) }
+{
+    branches_where(plan, |kind| kind != Kind::CurrentSource)
+}
+
+// All branches.
+pub fn placed_branches(plan: &Plan) -> u32
+    ensures { bits result ≡ placed plan.now }
+{
+    numbers_where(|k| is_placed(plan, k))
 }

@@ -1,9 +1,11 @@
 // Rows of signs: cuts of nodes, and loops along a branch.
-ghost use Rattle.std.specs.Prelude.{◌≡◌, ◌<◌};
-ghost use Rattle.graphs.specs.Cuts.{diff, turned, leaves, cut_row, loop_row};
+ghost use Rattle.std.specs.Prelude.{◌≡◌, ℕ, ◌<◌};
+ghost use Rattle.graphs.specs.Cuts.{diff, leaves, cut_row, loop_row};
+ghost use Rattle.graphs.specs.Graph as graphs;
 ghost use Rattle.topology.specs.Matrices.{entry};
 ghost use Rattle.topology.specs.Networks.{graph_of, alike};
-ghost use Rattle.topology.specs.Rows.{sign_of, marks, backs, shown, cut_from, Extended};
+ghost use Rattle.topology.specs.declared.sign.Sign.{Sign};
+ghost use Rattle.topology.specs.Rows.{sign_of, shown, cut_from};
 ghost use Rattle.topology.specs.Words.{bits};
 
 use crate::labels::{have_one_label, labels};
@@ -23,43 +25,21 @@ pub(crate) fn difference(first: bool, second: bool) -> Sign
     }
 }
 
-fn turn(sign: Sign) -> Sign
-    ensures { sign_of result ≡ turned (sign_of sign) }
+// The row with the sign that is given for each place.
+fn row_of<F: Fn(u32) -> Sign>(sign: F) -> Shown
+    requires { F.IsAlwaysCallable sign }
+    ensures { (f : ℕ → graphs.Sign) → ((k : ℕ) (x : Sign) → k < 32 → F.post sign k x → sign_of x ≡ f k) → result ≡ shown f }
 {
-    match sign {
-        Sign::Plus => Sign::Minus,
-        Sign::Zero => Sign::Zero,
-        Sign::Minus => Sign::Plus,
+    let mut row = Shown {
+        members: 0,
+        against: 0,
+    };
+    for k in 0..32 {
+        let sign = sign(k);
+        row.members = insert_if(row.members, k, sign != Sign::Zero);
+        row.against = insert_if(row.against, k, sign == Sign::Minus);
     }
-}
-
-fn is_marked(sign: Sign) -> bool
-    ensures { result ≡ marks (sign_of sign) }
-{
-    match sign {
-        Sign::Plus | Sign::Minus => true,
-        Sign::Zero => false,
-    }
-}
-
-fn is_minus(sign: Sign) -> bool
-    ensures { result ≡ backs (sign_of sign) }
-{
-    match sign {
-        Sign::Minus => true,
-        Sign::Plus | Sign::Zero => false,
-    }
-}
-
-// The row with one place more.
-fn extend(row: Shown, k: u32, sign: Sign) -> Shown
-    requires { k < 32 }
-    ensures { Extended row k (sign_of sign) result }
-{
-    Shown {
-        members: insert_if(row.members, k, is_marked(sign)),
-        against: insert_if(row.against, k, is_minus(sign)),
-    }
+    row
 }
 
 // The sign of a place in a row.
@@ -67,9 +47,8 @@ pub fn sign_at(row: Shown, k: u32) -> Sign
     ensures { sign_of result ≡ entry row k }
 {
     if has(row.against, k) {
-        return Sign::Minus;
-    }
-    if has(row.members, k) {
+        Sign::Minus
+    } else if has(row.members, k) {
         Sign::Plus
     } else {
         Sign::Zero
@@ -93,14 +72,7 @@ pub(crate) fn cut(plan: &Plan, word: u32, node: usize) -> Shown
     ensures { result ≡ cut_from (graph_of plan.now) (bits word) node }
 {
     let labels = labels(plan, word);
-    let mut row = Shown {
-        members: 0,
-        against: 0,
-    };
-    for k in 0..32 {
-        row = extend(row, k, crosses(plan, &labels, node, k));
-    }
-    row
+    row_of(|k| crosses(plan, &labels, node, k))
 }
 
 // The cut row of a branch t of the tree: the cut of the tail's side when t is taken out. For a caller that has the
@@ -122,19 +94,12 @@ fn passes(plan: &Plan, word: u32, k: u32, j: u32) -> Sign
         return Sign::Zero;
     }
     let labels = labels(plan, remove(word, j));
-    turn(crosses(plan, &labels, tail(plan, j), k))
+    -crosses(plan, &labels, tail(plan, j), k)
 }
 
 // The loop of the branch k with branches of the word, run along k.
 pub(crate) fn loop_along(plan: &Plan, word: u32, k: u32) -> Shown
     ensures { result ≡ shown (loop_row (graph_of plan.now) (bits word) 32 k) }
 {
-    let mut row = Shown {
-        members: 0,
-        against: 0,
-    };
-    for j in 0..32 {
-        row = extend(row, j, passes(plan, word, k, j));
-    }
-    row
+    row_of(|j| passes(plan, word, k, j))
 }

@@ -1,22 +1,12 @@
 // Sets of branches as words: bit k stands for the number k. What a caller with many rows needs is public.
-ghost use Rattle.std.specs.Prelude.{◌≡◌, ℕ, ◌<◌, ◌||◌, if◌then◌else◌};
-ghost use Rattle.graphs.specs.Graph.{with, without, both};
-ghost use Rattle.topology.specs.Words.{bits, except, first};
+ghost use Rattle.std.specs.Prelude.{◌≡◌, ℕ, ◌<◌, Bool, ◌||◌, if◌then◌else◌};
+ghost use Rattle.graphs.specs.Graph.{Set, with, without, both};
+ghost use Rattle.topology.specs.Words.{bits, except, under, first};
 
 pub fn has(word: u32, k: u32) -> bool
     ensures { result ≡ bits word k }
 {
-    if k > 31 {
-        return false;
-    }
-    word >> k & 1 == 1
-}
-
-pub(crate) fn insert(word: u32, k: u32) -> u32
-    requires { k < 32 }
-    ensures { bits result ≡ with (bits word) k }
-{
-    word | 1 << k
+    k < 32 && word >> k & 1 == 1
 }
 
 // The word with k, where that is asked for.
@@ -24,16 +14,13 @@ pub(crate) fn insert_if(word: u32, k: u32, holds: bool) -> u32
     requires { k < 32 }
     ensures { bits result ≡ (if holds then with (bits word) k else bits word) }
 {
-    if holds { insert(word, k) } else { word }
+    if holds { word | 1 << k } else { word }
 }
 
 pub(crate) fn remove(word: u32, k: u32) -> u32
     ensures { bits result ≡ without (bits word) k }
 {
-    if k > 31 {
-        return word;
-    }
-    less(word, 1 << k)
+    if k < 32 { less(word, 1 << k) } else { word }
 }
 
 pub fn common(a: u32, b: u32) -> u32
@@ -60,10 +47,17 @@ pub fn less(a: u32, b: u32) -> u32
 pub(crate) fn lowest(word: u32) -> Option<u32>
     ensures { result ≡ first (bits word) }
 {
+    (0..32).find(|k| has(word, *k))
+}
+
+// The numbers below 32 that pass.
+pub(crate) fn numbers_where<F: Fn(u32) -> bool>(passes: F) -> u32
+    requires { F.IsAlwaysCallable passes }
+    ensures { (S : Set) → ((k : ℕ) (b : Bool) → k < 32 → F.post passes k b → b ≡ S k) → bits result ≡ under S 32 }
+{
+    let mut word = 0;
     for k in 0..32 {
-        if has(word, k) {
-            return Some(k);
-        }
+        word = insert_if(word, k, passes(k));
     }
-    None
+    word
 }

@@ -1,8 +1,13 @@
-use Rattle.std.proofs.Common.{◌≡◌, ℕ, Option, sym, ap, ◌∙◌, subst}
+use Rattle.std.proofs.Common.{rules, IfSome, ◌≡◌, ℕ, Option, sym, ap, ◌∙◌, subst}
 use Rattle.std.proofs.lemmas.Result.{err_from_is_err_and}
 use Rattle.sheet.specs.declared.plan.Plan.{Plan}
 use Rattle.sheet.specs.declared.refusal.Shown.{Shown}
 use Rattle.sheet.specs.Refusals.{Answer, granted, after}
+use Rattle.graphs.specs.Cuts.{cut_row}
+use Rattle.topology.specs.Networks.{graph_of}
+use Rattle.topology.specs.Rows.{shown}
+use Rattle.topology.specs.Words.{bits}
+use Rattle.topology.proofs.Answering.{shown_if}
 use Rattle.topology.specs.Meanings.{CutAnswer}
 use Rattle.topology.specs.Trees.{cut_of, cut_row_of}
 use Rattle.topology.proofs.Meaning.{cut-answer}
@@ -22,5 +27,5 @@ pub returns : goal.returns
 unfolding cut_row_of
 returns c =
     with_meaning c.args.plan.now c.args.number _
-    (ap granted c.cut_of.ensures
+    (ap granted (shown_if c.then.result _ _ (c.then.ensures.variant ∙ c.has.ensures) (let is : IfSome c.then.result (λ s. s ≡ shown (cut_row (graph_of c.args.plan.now) (bits c.in_ok-tree.tree) 32 c.args.number)) = search rules in is))
     ∙ ap (λ a. after a (λ tree. granted (cut_of c.args.plan.now tree c.args.number))) c.in_ok-tree.ensures.answer)

@@ -15,21 +15,21 @@ pub returns-in-Some : goal.returns-in-Some
 returns-in-Some c =
     with_meaning c.args.plan.now _
     (meets_loop c.args.plan.now c.in-Some.k c.loop_along.result
-    (c.in-Some.ensures ∙ loose-found c.args.plan.now c.kept_branches-kept.result c.kept_branches-kept.ensures c.up_to-voltages.result c.less.result c.up_to-voltages.ensures c.less.ensures)
-    (loop_shown c.args.plan.now c.kept_branches-kept.result c.kept_branches-kept.ensures c.up_to-voltages.result c.common.result c.in-Some.k c.loop_along.result c.up_to-voltages.ensures c.common.ensures c.loop_along.ensures))
+    (c.in-Some.ensures ∙ loose-found c.args.plan.now c.kept_branches-kept.result c.kept_branches-kept.ensures c.voltage_sources-voltages.result c.less.result c.voltage_sources-voltages.ensures c.less.ensures)
+    (loop_shown c.args.plan.now c.kept_branches-kept.result c.kept_branches-kept.ensures c.voltage_sources-voltages.result c.common.result c.in-Some.k c.loop_along.result c.voltage_sources-voltages.ensures c.common.ensures c.loop_along.ensures))
 
 pub returns-in-Some-lowest : goal.returns-in-Some-lowest
 returns-in-Some-lowest c =
     with_meaning c.args.plan.now _
     (meets_cut c.args.plan.now c.in-Some-lowest.k c.cut.result
-    (c.in_default.ensures ∙ loose-found c.args.plan.now c.kept_branches-kept.result c.kept_branches-kept.ensures c.up_to-voltages.result c.less.result c.up_to-voltages.ensures c.less.ensures)
-    (c.in-Some-lowest.ensures ∙ late-found c.args.plan.now c.kept_branches-kept.result c.kept_branches-kept.ensures c.up_to-no_currents.result c.less-2.result c.up_to-no_currents.ensures c.less-2.ensures)
-    (cut-shown c.args.plan.now c.up_to-no_currents.result c.in-Some-lowest.k c.tail.result c.cut.result c.up_to-no_currents.ensures c.tail.ensures.is c.cut.ensures))
+    (c.in_default.ensures ∙ loose-found c.args.plan.now c.kept_branches-kept.result c.kept_branches-kept.ensures c.voltage_sources-voltages.result c.less.result c.voltage_sources-voltages.ensures c.less.ensures)
+    (c.in-Some-lowest.ensures ∙ late-found c.args.plan.now c.kept_branches-kept.result c.kept_branches-kept.ensures c.no_current_sources-no_currents.result c.less-2.result c.no_current_sources-no_currents.ensures c.less-2.ensures)
+    (cut-shown c.args.plan.now c.no_current_sources-no_currents.result c.in-Some-lowest.k c.tail.result c.cut.result c.no_current_sources-no_currents.ensures c.tail.ensures.is c.cut.ensures))
 
 pub returns : goal.returns
 returns c =
     with_meaning c.args.plan.now _
     (meets_none c.args.plan.now c.kept_branches-kept.result
-    (c.in_default.ensures ∙ loose-found c.args.plan.now c.kept_branches-kept.result c.kept_branches-kept.ensures c.up_to-voltages.result c.less.result c.up_to-voltages.ensures c.less.ensures)
-    (c.in_default-lowest.ensures ∙ late-found c.args.plan.now c.kept_branches-kept.result c.kept_branches-kept.ensures c.up_to-no_currents.result c.less-2.result c.up_to-no_currents.ensures c.less-2.ensures)
+    (c.in_default.ensures ∙ loose-found c.args.plan.now c.kept_branches-kept.result c.kept_branches-kept.ensures c.voltage_sources-voltages.result c.less.result c.voltage_sources-voltages.ensures c.less.ensures)
+    (c.in_default-lowest.ensures ∙ late-found c.args.plan.now c.kept_branches-kept.result c.kept_branches-kept.ensures c.no_current_sources-no_currents.result c.less-2.result c.no_current_sources-no_currents.ensures c.less-2.ensures)
     (set_word c.kept_branches-kept.result (tree_set c.args.plan.now) c.kept_branches-kept.type_inv c.kept_branches-kept.ensures))

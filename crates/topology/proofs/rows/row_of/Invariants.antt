@@ -1,0 +1,8 @@
+use Rattle.std.proofs.Common.{◌≡◌, ℕ, ◌<◌}
+use Rattle.graphs.specs.Graph as graphs
+use Rattle.topology.specs.declared.sign.Sign.{Sign}
+use Rattle.topology.specs.Rows.{sign_of, Gathered}
+use Rattle.topology.proofs.rows.row_of.Given as goal
+
+abbrev pub invariant-loop-k : goal.invariant-loop-k
+invariant-loop-k g l = (f : ℕ → graphs.Sign) → ((k : ℕ) (x : Sign) → k < 32 → goal.F-post g l.sign k x → sign_of x ≡ f k) → Gathered f l.k l.row
