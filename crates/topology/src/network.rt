@@ -17,20 +17,29 @@ pub(crate) const ORDER: [Kind; 5] = [
     Kind::CurrentSource,
 ];
 
+// A node of a plan's graph.
+#[derive(Clone, Copy)]
+pub(crate) struct Node {
+    pub(crate) number: usize,
+    ghost within: { number < 16 },
+}
+
 // The node that a branch starts at; 0 where there is no branch.
-pub(crate) fn tail(plan: &Plan, k: u32) -> usize
-    ensures is { result ≡ (graph_of plan.now).tail k }
-    ensures node { result < 16 }
+pub(crate) fn tail(plan: &Plan, k: u32) -> Node
+    ensures { result.number ≡ (graph_of plan.now).tail k }
 {
-    plan.at(k).map_or(0, |branch| branch.ends.tail as usize)
+    Node {
+        number: plan.at(k).map_or(0, |branch| branch.ends.tail as usize),
+    }
 }
 
 // The node that a branch ends at; 0 where there is no branch.
-pub(crate) fn head(plan: &Plan, k: u32) -> usize
-    ensures is { result ≡ (graph_of plan.now).head k }
-    ensures node { result < 16 }
+pub(crate) fn head(plan: &Plan, k: u32) -> Node
+    ensures { result.number ≡ (graph_of plan.now).head k }
 {
-    plan.at(k).map_or(0, |branch| branch.ends.head as usize)
+    Node {
+        number: plan.at(k).map_or(0, |branch| branch.ends.head as usize),
+    }
 }
 
 pub fn is_placed(plan: &Plan, k: u32) -> bool

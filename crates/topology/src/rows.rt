@@ -8,8 +8,8 @@ ghost use Rattle.topology.specs.declared.sign.Sign.{Sign};
 ghost use Rattle.topology.specs.Rows.{sign_of, shown, cut_from};
 ghost use Rattle.topology.specs.Words.{bits};
 
-use crate::labels::{have_one_label, labels};
-use crate::network::{head, tail};
+use crate::labels::Labels;
+use crate::network::{Node, head, tail};
 use crate::sign::Sign;
 use crate::words::{has, insert_if, remove};
 use sheet::{Plan, Shown};
@@ -56,22 +56,20 @@ pub fn sign_at(row: Shown, k: u32) -> Sign
 }
 
 // How a branch stands to the nodes that have the label of one node: it leaves them, enters them, or neither.
-fn crosses(plan: &Plan, labels: &[u8; 16], node: usize, k: u32) -> Sign
-    requires { node < 16 }
-    ensures { sign_of result ≡ leaves (graph_of plan.now) (alike labels.now node) k }
+fn crosses(plan: &Plan, labels: &Labels, node: Node, k: u32) -> Sign
+    ensures { sign_of result ≡ leaves (graph_of plan.now) (alike labels.now.of node.number) k }
 {
     difference(
-        have_one_label(labels, node, tail(plan, k)),
-        have_one_label(labels, node, head(plan, k)),
+        labels.are_alike(node, tail(plan, k)),
+        labels.are_alike(node, head(plan, k)),
     )
 }
 
 // The cut of the nodes that the branches of the word join with one node.
-pub(crate) fn cut(plan: &Plan, word: u32, node: usize) -> Shown
-    requires { node < 16 }
-    ensures { result ≡ cut_from (graph_of plan.now) (bits word) node }
+pub(crate) fn cut(plan: &Plan, word: u32, node: Node) -> Shown
+    ensures { result ≡ cut_from (graph_of plan.now) (bits word) node.number }
 {
-    let labels = labels(plan, word);
+    let labels = Labels::joined(plan, word);
     row_of(|k| crosses(plan, &labels, node, k))
 }
 
@@ -93,7 +91,7 @@ fn passes(plan: &Plan, word: u32, k: u32, j: u32) -> Sign
     if !has(word, j) {
         return Sign::Zero;
     }
-    let labels = labels(plan, remove(word, j));
+    let labels = Labels::joined(plan, remove(word, j));
     -crosses(plan, &labels, tail(plan, j), k)
 }
 

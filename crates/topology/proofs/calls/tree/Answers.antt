@@ -24,7 +24,7 @@ returns-in-Some-lowest c =
     (meets_cut c.args.plan.now c.in-Some-lowest.k c.cut.result
     (c.in_default.ensures ∙ loose-found c.args.plan.now c.kept_branches-kept.result c.kept_branches-kept.ensures c.voltage_sources-voltages.result c.less.result c.voltage_sources-voltages.ensures c.less.ensures)
     (c.in-Some-lowest.ensures ∙ late-found c.args.plan.now c.kept_branches-kept.result c.kept_branches-kept.ensures c.no_current_sources-no_currents.result c.less-2.result c.no_current_sources-no_currents.ensures c.less-2.ensures)
-    (cut-shown c.args.plan.now c.no_current_sources-no_currents.result c.in-Some-lowest.k c.tail.result c.cut.result c.no_current_sources-no_currents.ensures c.tail.ensures.is c.cut.ensures))
+    (cut-shown c.args.plan.now c.no_current_sources-no_currents.result c.in-Some-lowest.k c.tail.result.number c.cut.result c.no_current_sources-no_currents.ensures c.tail.ensures c.cut.ensures))
 
 pub returns : goal.returns
 returns c =

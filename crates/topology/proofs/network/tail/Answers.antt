@@ -2,6 +2,6 @@ use Rattle.std.proofs.Common.{rules}
 use Rattle.topology.specs.Networks.{graph_of}
 use Rattle.topology.proofs.network.tail.Goals as goal
 
-pub returns-clause-is : goal.returns-clause-is
+pub returns : goal.returns
 unfolding graph_of
-returns-clause-is c = search rules
+returns c = search rules

@@ -11,5 +11,5 @@ pub returns : goal.returns
 unfolding cut_from
 returns c =
     let p = c.args.plan.now in
-    c.row_of.ensures (leaves (graph_of p) (alike c.labels-labels.result c.args.node)) (λ k x lt h. search rules)
-    ∙ ap shown (fun_ext (leaves_labelled p (bits c.args.word) 32 c.labels-labels.result c.labels-labels.ensures c.args.node c.requires))
+    c.row_of.ensures (leaves (graph_of p) (alike c.joined-labels.result.of c.args.node.number)) (λ k x lt h. search rules)
+    ∙ ap shown (fun_ext (leaves_labelled p (bits c.args.word) 32 c.joined-labels.result.of c.joined-labels.ensures c.args.node.number c.args.node.within))

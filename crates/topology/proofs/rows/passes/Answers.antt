@@ -14,5 +14,5 @@ returns-then-not-has c = sym (loop_outside (graph_of c.args.plan.now) (bits c.ar
 pub returns : goal.returns
 returns c =
     c.neg.ensures
-    ∙ ap turned (c.crosses.ensures ∙ leaves-side c.args.plan.now (bits c.args.word) (bits c.remove.result) c.labels-labels.result c.args.j c.args.k c.tail.result c.remove.ensures c.labels-labels.ensures c.tail.ensures.is c.tail.ensures.node)
+    ∙ ap turned (c.crosses.ensures ∙ leaves-side c.args.plan.now (bits c.args.word) (bits c.remove.result) c.joined-labels.result.of c.args.j c.args.k c.tail.result.number c.remove.ensures c.joined-labels.ensures c.tail.ensures c.tail.result.within)
     ∙ sym (loop_at (graph_of c.args.plan.now) (bits c.args.word) 32 c.args.k c.args.j c.if-j-k.false (sym c.if-not-has.ensures))
