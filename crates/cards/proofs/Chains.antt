@@ -39,36 +39,6 @@ module _ {M : Type 0} (o : Ops M) (k : Kind) (c : Cutting) where
       barred 24 (byte_of (over_of k c)) (not (is_empty (over_of k c).text))
       (right (record { number = n; kind = (mark k).number; tail = t; head = h; value = v; start = s })))))))
 
-  -- where one check stops, those behind it do not matter
-  abbrev rest : ℕ → ℕ → ℕ → M → M → Checked (Placement M)
-  rest n t h v s =
-      barred 24 (byte_of (over_of k c)) (not (is_empty (over_of k c).text))
-      (right (record { number = n; kind = (mark k).number; tail = t; head = h; value = v; start = s }))
-
-  module _ (number : Word) (told : Told) (b : ℕ) where
-    pub number_stops : wrong told b ≡ counted number → wrong told b ≡ card_of o k number c
-    number_stops e = λ i.
-        then (e i) (λ n. then (counted c.tail) (λ t. then (counted c.head) (λ h. then (value_of o k c.value) (λ v. then (start_of o k c.fifth) (rest n t h v)))))
-
-    module _ (n : ℕ) (e1 : right n ≡ counted number) where
-      pub tail_stops : wrong told b ≡ counted c.tail → wrong told b ≡ card_of o k number c
-      tail_stops e = λ i.
-          then (e1 i) (λ n. then (e i) (λ t. then (counted c.head) (λ h. then (value_of o k c.value) (λ v. then (start_of o k c.fifth) (rest n t h v)))))
-
-      module _ (t : ℕ) (e2 : right t ≡ counted c.tail) where
-        pub head_stops : wrong told b ≡ counted c.head → wrong told b ≡ card_of o k number c
-        head_stops e = λ i.
-            then (e1 i) (λ n. then (e2 i) (λ t. then (e i) (λ h. then (value_of o k c.value) (λ v. then (start_of o k c.fifth) (rest n t h v)))))
-
-        module _ (h : ℕ) (e3 : right h ≡ counted c.head) where
-          pub value_stops : wrong told b ≡ value_of o k c.value → wrong told b ≡ card_of o k number c
-          value_stops e = λ i.
-              then (e1 i) (λ n. then (e2 i) (λ t. then (e3 i) (λ h. then (e i) (λ v. then (start_of o k c.fifth) (rest n t h v)))))
-
-          pub start_stops : (v : M) → right v ≡ value_of o k c.value → wrong told b ≡ start_of o k c.fifth → wrong told b ≡ card_of o k number c
-          start_stops v e4 e = λ i.
-              then (e1 i) (λ n. then (e2 i) (λ t. then (e3 i) (λ h. then (e4 i) (λ v. then (e i) (rest n t h v)))))
-
   pub card_line : (text : List ℕ) (place : ℕ) → 0 < length text → (get_or text 0 0 ≡ 42 → ⊥) → Some k ≡ kind_lettered (get_or text 0 0) → place ≡ c.first.place + 1
       → then (card_of o k (record { place = place; text = take (length text - 1) (drop 1 text) }) c) (λ p. right (Some p)) ≡ opened o text c
   card_line [] place some star letter is = absurd (omega arith)

@@ -4,12 +4,12 @@ use native.Mathlib.Nat.{pow-succ', pow-le-pow_right}
 use Rattle.std.proofs.lemmas.List.{at_drop_more, at_drop_all, take_rest}
 use Rattle.std.proofs.lemmas.Bool.{both_ways, and_parts, leb-true, lt-ltb, le-leb, and_right, le-ltb, eq-eqb, cond-true, cond-false}
 use Rattle.cards.specs.declared.numeral.Numeral.{Numeral}
-use Rattle.cards.specs.Numerals.{is_digit, all_digits, decimal, plain, over, slash, value_digits, ratio, negated, signed, number_digits, figured, word_of, is_whole}
-use Rattle.cards.specs.declared.token.Token.{Token}
-use Rattle.cards.specs.declared.token.Token.TheVariants.{Number, Node, Value, Start}
-use Rattle.cards.specs.Cards.{right, wanted, byte_of, counted}
+use Rattle.cards.specs.Numerals.{is_digit, all_digits, decimal, plain, over, slash, value_digits, ratio, negated, signed}
+use Rattle.std.proofs.lemmas.List.Quantifiers.{position-Some}
+use Rattle.std.specs.List.{position}
+use Rattle.std.specs.Option.{unwrap_or}
 use Rattle.cards.specs.Parts.{reach}
-use Rattle.sheet.specs.declared.kind.Kind.{Kind}
+use Rattle.cards.proofs.Pieces.{reach_found}
 
 -- the digits before place i are read, and write n
 pub record Sofar (text : List ℕ) (i n : ℕ) : Type 0 where
@@ -73,12 +73,19 @@ plain-lt most text n e = go (ltb 0 (length text) && (leb (length text) most && a
         omega arith
     go false is e = let z : ◌≡◌ {A = ℕ} 0 1 = cc in absurd (omega arith)
 
+-- a text without a slash is one number
 pub ratio-whole : (text : List ℕ) → reach slash text ≡ length text → over (plain value_digits text) (Some 1) ≡ ratio text
 ratio-whole text e = sym (cond-false (ltb (reach slash text) (length text)) _ _ (le-ltb _ _ (omega (arith, e))))
 
-pub ratio_parted : (text : List ℕ) (n : ℕ) → n ≡ reach slash text → n < length text
+pub ratio_whole : (text : List ℕ) → None ≡ position (λ b. eqb b slash) text → over (plain value_digits text) (Some 1) ≡ ratio text
+ratio_whole text none = ratio-whole text (sym (reach_found slash text) ∙ ap (λ o. unwrap_or o (length text)) (sym none))
+
+-- and one with a slash is one number over another
+pub ratio_parted : (text : List ℕ) (n : ℕ) → Some n ≡ position (λ b. eqb b slash) text
     → over (plain value_digits (take n text)) (plain value_digits (take (length text - (n + 1)) (drop (n + 1) text))) ≡ ratio text
-ratio_parted text n e lt =
+ratio_parted text n some =
+    let e : n ≡ reach slash text = ap (λ o. unwrap_or o (length text)) some ∙ reach_found slash text in
+    let lt : n < length text = (position-Some (λ b. eqb b slash) text n 0 (sym some)).0 in
     let rest : take (length text - (n + 1)) (drop (n + 1) text) ≡ drop (suc n) text = take_rest text (n + 1) ∙ ap (λ k. drop k text) (add-one n) in
     ap (λ u. over (plain value_digits (take n text)) (plain value_digits u)) rest
     ∙ ap (λ k. over (plain value_digits (take k text)) (plain value_digits (drop (suc k) text))) e
@@ -88,25 +95,3 @@ pub signed_minus : (text : List ℕ) → 0 < length text → get_or text 0 0 ≡
 signed_minus [] some is = absurd (omega arith)
 signed_minus (b ∷ bs) some is =
     ap (λ t. negated (ratio t)) (take_rest (b ∷ bs) 1) ∙ sym (cond-true (eqb b 45) _ _ (eq-eqb b 45 is))
-
--- a number or a node is what its digits write, and below a million
-pub record Count (k : Kind) (t : Token) (n : Numeral) : Type 0 where
-  pub small : n.top < 1000000
-  pub is : right n.top ≡ counted (word_of t)
-
-pub count_of : (k : Kind) (t : Token) (n : Numeral) → is_whole t ≡ true → right n ≡ wanted 22 (byte_of (word_of t)) (figured k t) → Count k t n
-count_of k t n is e = go t is e
-  where
-    whole_is : (byte : ℕ) (text : List ℕ) (p : Option ℕ) → plain number_digits text ≡ p → right n ≡ wanted 22 byte (over p (Some 1))
-        → (n.top < 1000000) × (right n.top ≡ wanted 22 byte (plain number_digits text))
-    whole_is byte text None at e = let z : ◌≡◌ {A = ℕ} 0 1 = cc in absurd (omega arith)
-    whole_is byte text (Some m) at e =
-        let same : n ≡ record { minus = false; top = m; under = 1 } = cc in
-        let top : n.top ≡ m = ap (λ x. x.top) same in
-        (omega (arith, plain-lt number_digits text m at), ap right top ∙ ap (wanted 22 byte) (sym at))
-
-    go : (t : Token) → is_whole t ≡ true → right n ≡ wanted 22 (byte_of (word_of t)) (figured k t) → Count k t n
-    go (Number f) is e = let h = whole_is _ f.text.now _ refl e in record { small = h.0; is = h.1 }
-    go (Node f) is e = let h = whole_is _ f.text.now _ refl e in record { small = h.0; is = h.1 }
-    go (Value f) is e = absurd (both_ways true (sym is) refl)
-    go (Start f) is e = absurd (both_ways true (sym is) refl)

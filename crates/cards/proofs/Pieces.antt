@@ -1,9 +1,13 @@
 -- The first piece of a text, and the first field of a line. Assumes nothing.
-use Rattle.std.proofs.Common.{◌≡◌, ℕ, suc, ◌+◌, ◌-◌, ◌<◌, ◌≤◌, Bool, true, false, eqb, leb, ◌⊎◌, List, [], ◌∷◌, length, get_or, take, drop, sym, refl, ap, ◌∙◌, subst, inl, inr, ⊎_elim, add-zero, add-one, arith, length-drop}
+use Rattle.std.proofs.Common.{◌≡◌, ℕ, suc, ◌+◌, ◌-◌, ◌<◌, ◌≤◌, Bool, true, false, cond, not, eqb, ltb, ◌⊎◌, List, [], ◌∷◌, length, get_or, take, drop, Some, None, sym, refl, ap, ◌∙◌, subst, inl, inr, ⊎_elim, add-zero, add-one, arith, length-drop}
+use Rattle.std.proofs.lemmas.List.Recursion.{is_position_or_len}
+use Rattle.std.proofs.lemmas.List.Sums.{prefix_len-le-length}
+use Rattle.std.proofs.Math.Numerals.{one-add}
+use Rattle.std.specs.List.{position, position_or_len, slice_split, onto_first}
+use Rattle.std.specs.Option.{unwrap_or}
 use Rattle.std.proofs.lemmas.List.{drop-drop, drop_all, length-take-le, take_all, get_or-drop, at_drop_more, at_drop_all, drop_more}
-use Rattle.std.proofs.lemmas.Bool.{eqb-true, eq-eqb, ne_eqb, le-leb, lt-leb, cond-true, cond-false}
+use Rattle.std.proofs.lemmas.Bool.{ltb-false, eqb-true, eq-eqb, ne_eqb, le-leb, lt-leb, cond-true, cond-false}
 use Rattle.cards.specs.Fields.{Word, worded, words, words_from, word_at, missing, word_end, First}
-use Rattle.cards.specs.Lines.{lines_from}
 use Rattle.cards.specs.Parts.{reach, further, parts, before, onto}
 
 -- the separator does not occur: all is one piece
@@ -31,29 +35,49 @@ first_piece s (b ∷ bs) = go (eqb b s) refl (first_piece s bs)
 pub reach_within : (s : ℕ) (bs : List ℕ) → reach s bs ≤ length bs
 reach_within s bs = ⊎_elim (λ h. omega (arith, h.whole)) (λ h. omega (arith, h.below)) (first_piece s bs)
 
--- one turn of the search for a byte
-pub reach_more : (s : ℕ) (bs : List ℕ) (i : ℕ) → i < length bs → (get_or bs i 0 ≡ s → ⊥) → reach s bs ≡ i + reach s (drop i bs) → reach s bs ≡ (i + 1) + reach s (drop (i + 1) bs)
-reach_more s bs i lt ne e =
-    let step : reach s (drop i bs) ≡ further (eqb (get_or bs i 0) s) (reach s (drop (i + 1) bs)) = at_drop_more (reach s) bs i 0 lt in
-    let on : further (eqb (get_or bs i 0) s) (reach s (drop (i + 1) bs)) ≡ suc (reach s (drop (i + 1) bs)) = ap (λ t. further t (reach s (drop (i + 1) bs))) (ne_eqb _ s ne) in
-    omega (arith, e, step, on)
+-- what stands before the first separator is what `position` finds, or all of it
+reach_position : (s : ℕ) (bs : List ℕ) → reach s bs ≡ position_or_len (λ b. eqb b s) bs
+reach_position s bs = is_position_or_len (reach s) (λ b. eqb b s) refl (λ b bs. step (eqb b s) (reach s bs)) bs
+  where
+    step : (t : Bool) (n : ℕ) → further t n ≡ cond t 0 (1 + n)
+    step true n = refl
+    step false n = grind arith
 
-pub reach_here : (s : ℕ) (bs : List ℕ) (i : ℕ) → i < length bs → get_or bs i 0 ≡ s → reach s bs ≡ i + reach s (drop i bs) → i ≡ reach s bs
-reach_here s bs i lt is e =
-    let step : reach s (drop i bs) ≡ further (eqb (get_or bs i 0) s) (reach s (drop (i + 1) bs)) = at_drop_more (reach s) bs i 0 lt in
-    let on : further (eqb (get_or bs i 0) s) (reach s (drop (i + 1) bs)) ≡ 0 = ap (λ t. further t (reach s (drop (i + 1) bs))) (eq-eqb _ s is) in
-    omega (arith, e, step, on)
+-- the index of the first element that passes, or the length
+found_or_all : {X : Type 0} (p : X → Bool) (xs : List X) → unwrap_or (position p xs) (length xs) ≡ position_or_len p xs
+found_or_all p xs = go (ltb (position_or_len p xs) (length xs)) refl
+  where
+    go : (t : Bool) → ltb (position_or_len p xs) (length xs) ≡ t → unwrap_or (cond t (Some (position_or_len p xs)) None) (length xs) ≡ position_or_len p xs
+    go true e = refl
+    go false e = omega (arith, ltb-false (position_or_len p xs) (length xs) e, prefix_len-le-length (λ x. not (p x)) xs)
 
-pub reach-none : (s : ℕ) (bs : List ℕ) (i : ℕ) → length bs ≤ i → reach s bs ≡ i + reach s (drop i bs) → length bs ≡ reach s bs
-reach-none s bs i past e =
-    let step : reach s (drop i bs) ≡ 0 = at_drop_all (reach s) bs i past in
-    omega (arith, e, step, reach_within s bs)
+pub reach_found : (s : ℕ) (bs : List ℕ) → unwrap_or (position (λ b. eqb b s) bs) (length bs) ≡ reach s bs
+reach_found s bs = found_or_all (λ b. eqb b s) bs ∙ sym (reach_position s bs)
 
--- a space before the fields changes nothing
-pub words_more : (line : List ℕ) (at : ℕ) → at < length line → get_or line at 0 ≡ 32 → words_from (at + 1) (drop (at + 1) line) ≡ words_from at (drop at line)
+-- how many spaces stand before the fields
+abbrev gap : List ℕ → ℕ
+gap bs = position_or_len (λ b. not (eqb b 32)) bs
+
+-- they change nothing
+words_past : (at : ℕ) (bs : List ℕ) → words_from (at + gap bs) (drop (gap bs) bs) ≡ words_from at bs
 unfolding parts
-words_more line at lt is =
-    rw add-one (sym (ap (words_from at) (drop_more line at 0 lt) ∙ rw (add-one, is)))
+words_past at [] = ap (λ n. words_from n []) (add-zero at)
+words_past at (b ∷ bs) = go (eqb b 32) refl (words_past (suc at) bs)
+  where
+    further_by : (n m : ℕ) → n + (1 + m) ≡ suc n + m
+    further_by n m = omega arith
+
+    go : (t : Bool) → eqb b 32 ≡ t → words_from (suc at + gap bs) (drop (gap bs) bs) ≡ words_from (suc at) bs
+        → words_from (at + cond (not (not t)) (1 + gap bs) 0) (drop (cond (not (not t)) (1 + gap bs) 0) (b ∷ bs)) ≡ words_from at (b ∷ bs)
+    go true e h =
+        (λ i. words_from (further_by at (gap bs) i) (drop (one-add (gap bs) i) (b ∷ bs))) ∙ h ∙ ap (λ x. words_from at (x ∷ bs)) (sym (eqb-true b 32 e))
+    go false e h = ap (λ n. words_from n (b ∷ bs)) (add-zero at)
+
+pub gap_past : (line : List ℕ) (from n : ℕ) → n ≡ unwrap_or (position (λ b. not (eqb b 32)) (drop from line)) (length (drop from line))
+    → words_from (from + n) (drop (from + n) line) ≡ words_from from (drop from line)
+gap_past line from n e =
+    let is = e ∙ found_or_all (λ b. not (eqb b 32)) (drop from line) in
+    ap (words_from (from + n)) (sym (drop-drop n from line)) ∙ ap (λ k. words_from (from + k) (drop k (drop from line))) is ∙ words_past from (drop from line)
 
 past_field : (line : List ℕ) (from at : ℕ) (rest : List ℕ) → rest ≡ drop at line → at ≤ length line
     → worded at (parts 32 rest) ≡ words_from from (drop from line) → (at < length line → get_or rest 0 0 ≡ 32 → ⊥)
@@ -122,28 +146,13 @@ pub this_field : (line : List ℕ) (k from : ℕ) (w : Word) → words_from from
 this_field line k from w all f =
     f.is ∙ ap (λ ws. get_or ws 0 (missing line)) all ∙ get_or-drop k (words line) 0 (missing line) ∙ ap (λ n. get_or (words line) n (missing line)) (add-zero k)
 
--- the next line is the next piece
-pub lines_more : (input : List ℕ) (next r : ℕ) → next ≤ length input → r ≡ reach 10 (drop next input)
-    → lines_from input next ≡ take r (drop next input) ∷ lines_from input (next + r + 1)
-lines_more input next r within is = first ∙ subst (λ n. parts 10 (drop next input) ≡ take n (drop next input) ∷ lines_from input (next + n + 1)) (sym is) (go (first_piece 10 (drop next input)))
+-- the pieces are what `split` gives
+pub split_parts : (s : ℕ) (bs : List ℕ) → slice_split (λ b. eqb b s) bs ≡ parts s bs
+unfolding parts
+split_parts s [] = refl
+split_parts s (b ∷ bs) = ap (λ ps. cond (eqb b s) ([] ∷ ps) (onto_first b ps)) (split_parts s bs) ∙ same (eqb b s) (parts s bs)
   where
-    first : lines_from input next ≡ parts 10 (drop next input)
-    first = cond-true (leb next (length input)) _ _ (le-leb _ _ within)
-
-    size : length (drop next input) ≡ length input - next
-    size = length-drop next input
-
-    go : Ends (drop next input) (reach 10 (drop next input)) (parts 10 (drop next input)) ⊎ Found 10 (drop next input) (reach 10 (drop next input)) (parts 10 (drop next input))
-        → parts 10 (drop next input) ≡ take (reach 10 (drop next input)) (drop next input) ∷ lines_from input (next + reach 10 (drop next input) + 1)
-    go (inl h) =
-        let past : length input < next + reach 10 (drop next input) + 1 = omega (arith, h.whole, size) in
-        let none = cond-false (leb (next + reach 10 (drop next input) + 1) (length input)) (parts 10 (drop (next + reach 10 (drop next input) + 1) input)) [] (lt-leb _ _ past) in
-        let all = take_all (reach 10 (drop next input)) (drop next input) (omega (arith, h.whole)) in
-        h.piece ∙ sym (λ i. all i ∷ none i)
-    go (inr h) =
-        let r = reach 10 (drop next input) in
-        let before : next + r + 1 ≤ length input = omega (arith, h.below, size) in
-        let at : next + suc r ≡ next + r + 1 = omega arith in
-        let rest : drop (suc r) (drop next input) ≡ drop (next + r + 1) input = drop-drop (suc r) next input ∙ ap (λ n. drop n input) at in
-        h.piece ∙ ap (λ bs. take r (drop next input) ∷ parts 10 bs) rest
-        ∙ ap (λ ls. take r (drop next input) ∷ ls) (sym (cond-true (leb (next + r + 1) (length input)) _ _ (le-leb _ _ before)))
+    same : (t : Bool) (ps : List (List ℕ)) → cond t ([] ∷ ps) (onto_first b ps) ≡ before t b ps
+    same true ps = refl
+    same false [] = refl
+    same false (w ∷ ws) = refl

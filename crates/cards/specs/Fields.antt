@@ -12,8 +12,7 @@
 -- Cutting       the first six fields of a line, by what they are for
 -- cutting       those of a line
 -- seen_cut      those that the program cut
--- Near          no field lies farther out than a line can reach
-use Rattle.std.specs.Prelude.{◌≡◌, ℕ, suc, ◌+◌, ◌^◌, ◌<◌, ◌≤◌, List, [], ◌∷◌, length, drop, slice_index_or}
+use Rattle.std.specs.Prelude.{◌≡◌, ℕ, suc, ◌+◌, ◌≤◌, List, [], ◌∷◌, length, drop, slice_index_or}
 use Rattle.cards.specs.declared.field.Field.{Field}
 use Rattle.cards.specs.declared.field.Cut.{Cut}
 use Rattle.cards.specs.Parts.{parts}
@@ -77,11 +76,3 @@ seen_cut c = record {
   fifth = seen c.fifth;
   sixth = seen c.sixth;
 }
-
-pub record Near (c : Cutting) : Type 0 where
-  pub first : c.first.place < 2 ^ 63
-  pub tail : c.tail.place < 2 ^ 63
-  pub head : c.head.place < 2 ^ 63
-  pub value : c.value.place < 2 ^ 63
-  pub fifth : c.fifth.place < 2 ^ 63
-  pub sixth : c.sixth.place < 2 ^ 63

@@ -1,49 +1,40 @@
 // The call that reads a text of cards.
-ghost use Rattle.std.specs.Prelude.{◌≡◌, length};
+ghost use Rattle.std.specs.Prelude.{◌≡◌, ◌==◌, length};
 ghost use Rattle.cards.specs.Following.{Accepts, Blames};
 ghost use Rattle.cards.specs.Reading.{state_of, report, line_done, cards_read};
 ghost use Rattle.sheet.specs.Meanings.{meant_sheet};
 
 use crate::card::read_line;
 use crate::fault::{Fault, Layer};
-use crate::reader::{Line, Reader};
 use arithmetic::Arithmetic;
 use sheet::{Plan, Row};
 
-// Places the card of a line, if it has one. A fault of the sheet is at byte 1.
+// A line ends at byte 10 or with the text.
+fn ends_line(b: &u8) -> bool
+    ensures { result ≡ (b.now == 10) }
+{
+    *b == b'\n'
+}
+
+// Places the card of the line of that number, if it has one. A fault of the sheet is at byte 1.
 fn place_line<N: Arithmetic>(
-    line: Line,
-    zero: N,
+    number: usize,
+    text: &[u8],
     plan: &mut Plan,
     rows: &mut [Row<N>],
 ) -> Result<(), Fault>
-    requires { N.mean zero ≡ N.ops.nought }
-    ensures { state_of N.mean result plan.new rows.new ≡ line_done N.ops line.entry.number line.entry.text.now (meant_sheet N.mean (record { plan = plan.old; rows = rows.old })) }
+    ensures { state_of N.mean result plan.new rows.new ≡ line_done N.ops number text.now (meant_sheet N.mean (record { plan = plan.old; rows = rows.old })) }
 {
-    let number = line.number;
-    let card = match read_line(line.text, zero) {
-        Ok(card) => card,
-        Err(wrong) => {
-            return Err(Fault {
-                layer: Layer::Cards,
-                refusal: wrong.refusal,
-                line: number,
-                byte: wrong.byte,
-            });
-        }
-    };
+    let card = read_line(text).map_err(|wrong| wrong.at(number))?;
     let Some(placement) = card else {
         return Ok(());
     };
-    match plan.place(rows, placement) {
-        Ok(()) => Ok(()),
-        Err(refusal) => Err(Fault {
-            layer: Layer::Sheet,
-            refusal,
-            line: number,
-            byte: 1,
-        }),
-    }
+    plan.place(rows, placement).map_err(|refusal| Fault {
+        layer: Layer::Sheet,
+        refusal,
+        line: number,
+        byte: 1,
+    })
 }
 
 // Blanks the sheet and places the cards of a text on it, up to the first fault. Refused by 1, with nothing blanked, at
@@ -57,18 +48,15 @@ pub fn read_cards<N: Arithmetic>(
     ensures blames { Blames N.ops input.now (length rows.old) (meant_sheet N.mean (record { plan = plan.old; rows = rows.old })) (report result) (meant_sheet N.mean (record { plan = plan.new; rows = rows.new })) }
     ensures reads { state_of N.mean result plan.new rows.new ≡ cards_read N.ops input.now (meant_sheet N.mean (record { plan = plan.old; rows = rows.old })) }
 {
-    let zero = N::zero();
-    if let Err(refusal) = plan.blank(rows) {
-        return Err(Fault {
-            layer: Layer::Sheet,
-            refusal,
-            line: 0,
-            byte: 0,
-        });
-    }
-    let mut reader = Reader::new(input);
-    while let Some(line) = reader.next_line() {
-        place_line(line, zero, plan, rows)?;
+    plan.blank(rows).map_err(|refusal| Fault {
+        layer: Layer::Sheet,
+        refusal,
+        line: 0,
+        byte: 0,
+    })?;
+    // A pointer: where a generic function loops over an iterator that holds a closure, its invariant cannot be stated.
+    for (n, text) in input.split(ends_line as fn(&u8) -> bool).enumerate() {
+        place_line(n + 1, text, plan, rows)?;
     }
     Ok(())
 }

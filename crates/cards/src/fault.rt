@@ -1,15 +1,17 @@
 // What is wrong with a text of cards, and where.
+ghost use Rattle.std.specs.Prelude.{◌≡◌};
+
 use sheet::Refusal;
 
 // Who refuses: the card rules, or the sheet that the card is placed on.
-#[derive(Clone, Copy)]
+#[derive(Clone, Copy, PartialEq, Eq, Debug)]
 pub enum Layer {
     Cards,
     Sheet,
 }
 
 // The line and the byte in it are counted from 1; both are 0 where the row table is refused before any line.
-#[derive(Clone, Copy)]
+#[derive(Clone, Copy, PartialEq, Eq, Debug)]
 pub struct Fault {
     pub layer: Layer,
     pub refusal: Refusal,
@@ -22,4 +24,18 @@ pub struct Fault {
 pub(crate) struct Wrong {
     pub(crate) refusal: Refusal,
     pub(crate) byte: usize,
+}
+
+impl Wrong {
+    // The same, within that line.
+    pub(crate) fn at(self, line: usize) -> Fault
+        ensures { result ≡ record { layer = Layer.Cards; refusal = self.refusal; line = line; byte = self.byte } }
+    {
+        Fault {
+            layer: Layer::Cards,
+            refusal: self.refusal,
+            line,
+            byte: self.byte,
+        }
+    }
 }

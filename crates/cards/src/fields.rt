@@ -1,11 +1,33 @@
 // Lines cut into fields. Byte 32 alone parts fields.
-ghost use Rattle.std.specs.Prelude.{◌≡◌, ◌^◌, ◌<◌, ◌≤◌, length, drop, ◌≢◌, slice_index};
-ghost use Rattle.cards.specs.Fields.{seen, seen_cut, cutting, First, Near, word_end, words_from};
+ghost use Rattle.std.specs.Prelude.{◌≡◌, ◌<◌, ◌≤◌, length, drop, ◌≢◌, slice_index};
+ghost use Rattle.cards.specs.Cards.{byte_of};
+ghost use Rattle.cards.specs.Fields.{seen, seen_cut, cutting, First, word_end, words_from};
 
+use crate::fault::Wrong;
 use crate::field::{Cut, Field};
-use crate::scan::until;
+use sheet::Refusal;
 
 const SPACE: u8 = b' ';
+
+impl<'a> Field<'a> {
+    // The place just past the field.
+    fn end(self) -> usize
+        ensures { result ≡ word_end (seen self.entry) }
+    {
+        self.place + self.text.len()
+    }
+
+    // That refusal at the field's first byte, counted from 1.
+    pub(crate) fn wrong(self, refusal: Refusal) -> Wrong
+        ensures refusal { result.refusal ≡ refusal }
+        ensures byte { result.byte ≡ byte_of (seen self.entry) }
+    {
+        Wrong {
+            refusal,
+            byte: self.place + 1,
+        }
+    }
+}
 
 // The first place from there on that holds no space.
 fn past_spaces(line: &[u8], from: usize) -> usize
@@ -14,11 +36,8 @@ fn past_spaces(line: &[u8], from: usize) -> usize
     ensures within { result ≤ length line.now }
     ensures stops { result < length line.now → slice_index line.now result ≢ 32 }
 {
-    let mut at = from;
-    while at < line.len() && line[at] == SPACE {
-        at += 1;
-    }
-    at
+    let rest = &line[from..];
+    from + rest.iter().position(|b| *b != SPACE).unwrap_or(rest.len())
 }
 
 // The first field from that place on.
@@ -28,31 +47,23 @@ fn field_from<'a>(line: &'a [u8], from: usize) -> Field<'a>
 {
     let place = past_spaces(line, from);
     let rest = &line[place..];
+    let length = rest.iter().position(|b| *b == SPACE).unwrap_or(rest.len());
     Field {
-        text: &rest[..until(rest, SPACE)],
+        text: &rest[..length],
         place,
     }
 }
 
-// The place just past a field.
-fn end(field: Field) -> usize
-    requires { word_end (seen field) < 2 ^ 63 }
-    ensures { result ≡ word_end (seen field.entry) }
-{
-    field.place + field.text.len()
-}
-
 // The first six fields of a line.
 pub(crate) fn cut<'a>(line: &'a [u8]) -> Cut<'a>
-    ensures words { seen_cut result ≡ cutting line.now }
-    ensures near { Near (seen_cut result) }
+    ensures { seen_cut result ≡ cutting line.now }
 {
     let first = field_from(line, 0);
-    let tail = field_from(line, end(first));
-    let head = field_from(line, end(tail));
-    let value = field_from(line, end(head));
-    let fifth = field_from(line, end(value));
-    let sixth = field_from(line, end(fifth));
+    let tail = field_from(line, first.end());
+    let head = field_from(line, tail.end());
+    let value = field_from(line, head.end());
+    let fifth = field_from(line, value.end());
+    let sixth = field_from(line, fifth.end());
     Cut {
         first,
         tail,

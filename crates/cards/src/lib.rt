@@ -7,12 +7,7 @@ mod digits;
 mod fault;
 mod field;
 mod fields;
-mod lines;
 mod numeral;
-mod reader;
-mod scan;
-mod token;
-mod tokens;
 mod values;
 
 pub use calls::read_cards;

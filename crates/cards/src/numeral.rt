@@ -1,4 +1,4 @@
-// A numeral: a whole number over another, with or without a minus.
+// A numeral: a whole number over another, with or without a minus. The minus is the sign of the number beside its size.
 #[derive(Clone, Copy)]
 pub(crate) struct Numeral {
     pub(crate) minus: bool,

@@ -1,4 +1,4 @@
-use Rattle.std.proofs.Common.{◌≡◌, ◌+◌, ◌-◌, ◌<◌, length, get_or, take, drop, Some, refl, ap, ◌∙◌, rules}
+use Rattle.std.proofs.Common.{◌≡◌, ◌+◌, ◌-◌, ◌<◌, length, get_or, take, drop, Some, sym, refl, ap, ◌∙◌, rules}
 use Rattle.std.proofs.lemmas.Result.{err_from_is_err_and}
 use Rattle.cards.specs.Cards.{right, then, card_of, opened, line_of}
 use Rattle.cards.specs.Fields.{seen_cut}
@@ -9,19 +9,19 @@ use Rattle.cards.proofs.card.read_line.Goals.{After-card}
 
 -- the line is the card that its fields make
 found : (g : given.Over) (c : After-card g)
-    → then (card_of g.N.Arithmetic.ops c.in-Some.kind
+    → then (card_of g.N.Arithmetic.ops c.in_ok-kind-in-len1-up.kind
     (record { place = c.cut-fields.result.first.place + 1; text = take (length c.cut-fields.result.first.text.now - 1) (drop 1 c.cut-fields.result.first.text.now) })
     (seen_cut c.cut-fields.result)) (λ p. right (Some p)) ≡ line_of g.N.Arithmetic.ops c.args.line.now
 found g c =
     let text = c.cut-fields.result.first.text.now in
     let some : 0 < length text = search rules in
     let star : get_or text 0 0 ≡ 42 → ⊥ = search rules in
-    card_line g.N.Arithmetic.ops c.in-Some.kind (seen_cut c.cut-fields.result) text _ some star c.in-Some.ensures refl
-    ∙ ap (λ x. opened g.N.Arithmetic.ops x.first.text x) c.cut-fields.ensures.words
+    card_line g.N.Arithmetic.ops c.in_ok-kind-in-len1-up.kind (seen_cut c.cut-fields.result) text _ some star (sym c.in_ok-kind-in-len1-up.ensures.ok_part ∙ c.lettered.ensures) refl
+    ∙ ap (λ x. opened g.N.Arithmetic.ops x.first.text x) c.cut-fields.ensures
 
 pub returns-in_err-card-in-len1-up : goal.returns-in_err-card-in-len1-up
 returns-in_err-card-in-len1-up g c =
-    let p = err_from_is_err_and c.from_residual.result c.from_residual.ensures.1 in
+    let p = err_from_is_err_and c.from_residual-in_err-card-in-len1-up.result c.from_residual-in_err-card-in-len1-up.ensures.1 in
     rw (p.1, p.2) (ap (λ x. then x (λ p. right (Some p))) c.in_err-card-in-len1-up.ensures ∙ found g (goal.at.returns-in_err-card-in-len1-up g c).After-card)
 
 pub returns-in_ok-card-in-len1-up : goal.returns-in_ok-card-in-len1-up

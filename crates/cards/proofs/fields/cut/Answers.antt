@@ -1,4 +1,4 @@
-use Rattle.std.proofs.Common.{refl, rules}
+use Rattle.std.proofs.Common.{refl}
 use Rattle.cards.specs.Fields.{seen}
 use Rattle.cards.proofs.Pieces.{next_fields, this_field}
 use Rattle.cards.proofs.fields.cut.Goals as goal
@@ -17,21 +17,11 @@ returns c =
     let e3 = next_fields line 2 _ c.end-3.result _ e2 f2 c.end-3.ensures in
     let e4 = next_fields line 3 _ c.end-4.result _ e3 f3 c.end-4.ensures in
     let e5 = next_fields line 4 _ c.end-5.result _ e4 f4 c.end-5.ensures in
-    record {
-      words = λ i. record {
-        first = this_field line 0 0 (seen c.field_from-first.result) refl f0 i;
-        tail = this_field line 1 _ (seen c.field_from-tail.result) e1 f1 i;
-        head = this_field line 2 _ (seen c.field_from-head.result) e2 f2 i;
-        value = this_field line 3 _ (seen c.field_from-value.result) e3 f3 i;
-        fifth = this_field line 4 _ (seen c.field_from-fifth.result) e4 f4 i;
-        sixth = this_field line 5 _ (seen c.field_from-sixth.result) e5 f5 i;
-      };
-      near = record {
-        first = search rules;
-        tail = search rules;
-        head = search rules;
-        value = search rules;
-        fifth = search rules;
-        sixth = search rules;
-      };
+    λ i. record {
+      first = this_field line 0 0 (seen c.field_from-first.result) refl f0 i;
+      tail = this_field line 1 _ (seen c.field_from-tail.result) e1 f1 i;
+      head = this_field line 2 _ (seen c.field_from-head.result) e2 f2 i;
+      value = this_field line 3 _ (seen c.field_from-value.result) e3 f3 i;
+      fifth = this_field line 4 _ (seen c.field_from-fifth.result) e4 f4 i;
+      sixth = this_field line 5 _ (seen c.field_from-sixth.result) e5 f5 i;
     }
