@@ -22,9 +22,6 @@ or_else_barred n byte false x rest = refl
 pub barred_stops : {X Y : Type 0} (n byte : ℕ) (t : Bool) (x : X) (rest : Checked Y) (told : Told) (b : ℕ) → wrong told b ≡ barred n byte t (right x) → wrong told b ≡ barred n byte t rest
 barred_stops n byte t x rest told b e = ap (λ c. or_else c rest) e ∙ or_else_barred n byte t x rest
 
-pub barred_passes : {X Y : Type 0} (n byte : ℕ) (t : Bool) (x : X) (rest : Checked Y) → right x ≡ barred n byte t (right x) → rest ≡ barred n byte t rest
-barred_passes n byte t x rest e = ap (λ c. or_else c rest) e ∙ or_else_barred n byte t x rest
-
 module _ {M : Type 0} (o : Ops M) (k : Kind) (c : Cutting) where
   pub to_over : (number : Word) (n t h : ℕ) (v s : M) → right n ≡ counted number → right t ≡ counted c.tail → right h ≡ counted c.head
       → right v ≡ value_of o k c.value → right s ≡ start_of o k c.fifth

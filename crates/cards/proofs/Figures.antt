@@ -17,37 +17,6 @@ pub record Sofar (text : List ℕ) (i n : ℕ) : Type 0 where
   pub digits : all_digits (drop i text) ≡ all_digits text
   pub value : decimal n (drop i text) ≡ decimal 0 text
 
-module _ (text : List ℕ) (i n : ℕ) (h : Sofar text i n) where
-  pub digit_more : i < length text → is_digit (get_or text i 0) ≡ true → Sofar text (i + 1) (n * 10 + (get_or text i 0 - 48))
-  digit_more lt is =
-      let b = get_or text i 0 in
-      let bounds = and_parts (leb 48 b) (leb b 57) is in
-      let high = leb-true b 57 bounds.1 in
-      let all : all_digits (drop i text) ≡ (is_digit b && all_digits (drop (i + 1) text)) = at_drop_more all_digits text i 0 lt in
-      let one : (is_digit b && all_digits (drop (i + 1) text)) ≡ all_digits (drop (i + 1) text) = ap (λ t. t && all_digits (drop (i + 1) text)) is in
-      let step : decimal n (drop i text) ≡ decimal (n * 10 + (b - 48)) (drop (i + 1) text) = at_drop_more (decimal n) text i 0 lt in
-      let room : 10 ^ (i + 1) ≡ 10 ^ i * 10 = ap (λ k. 10 ^ k) (add-one i) ∙ pow-suc 10 i in
-      record {
-        small = omega (arith, h.small, room);
-        digits = sym one ∙ sym all ∙ h.digits;
-        value = sym step ∙ h.value;
-      }
-
-  pub digit_wrong : (most : ℕ) → i < length text → is_digit (get_or text i 0) ≡ false → None ≡ plain most text
-  digit_wrong most lt is =
-      let all : all_digits (drop i text) ≡ (is_digit (get_or text i 0) && all_digits (drop (i + 1) text)) = at_drop_more all_digits text i 0 lt in
-      let none : all_digits text ≡ false = sym h.digits ∙ all ∙ ap (λ t. t && all_digits (drop (i + 1) text)) is in
-      sym (cond-false (ltb 0 (length text) && (leb (length text) most && all_digits text)) (Some (decimal 0 text)) None
-      (and_right (ltb 0 (length text)) _ (and_right (leb (length text) most) _ none)))
-
-  pub digits_right : (most : ℕ) → length text ≤ i → i ≤ length text → 0 < length text → length text ≤ most → Some n ≡ plain most text
-  digits_right most end within some few =
-      let ends : all_digits (drop i text) ≡ true = at_drop_all all_digits text i end in
-      let value : decimal n (drop i text) ≡ n = at_drop_all (decimal n) text i end in
-      let all : (ltb 0 (length text) && (leb (length text) most && all_digits text)) ≡ true =
-      λ j. lt-ltb 0 (length text) some j && (le-leb (length text) most few j && (sym h.digits ∙ ends) j) in
-      ap Some (sym value ∙ h.value) ∙ sym (cond-true _ (Some (decimal 0 text)) None all)
-
 -- digits write less than a power of ten
 decimal-lt : (n : ℕ) (bs : List ℕ) → all_digits bs ≡ true → decimal n bs < (n + 1) * 10 ^ length bs
 decimal-lt n [] all = omega arith
@@ -90,8 +59,3 @@ ratio_parted text n some =
     ap (λ u. over (plain value_digits (take n text)) (plain value_digits u)) rest
     ∙ ap (λ k. over (plain value_digits (take k text)) (plain value_digits (drop (suc k) text))) e
     ∙ sym (cond-true (ltb (reach slash text) (length text)) _ _ (lt-ltb _ _ (omega (arith, e))))
-
-pub signed_minus : (text : List ℕ) → 0 < length text → get_or text 0 0 ≡ 45 → negated (ratio (take (length text - 1) (drop 1 text))) ≡ signed text
-signed_minus [] some is = absurd (omega arith)
-signed_minus (b ∷ bs) some is =
-    ap (λ t. negated (ratio t)) (take_rest (b ∷ bs) 1) ∙ sym (cond-true (eqb b 45) _ _ (eq-eqb b 45 is))

@@ -19,9 +19,6 @@ use Rattle.cards.proofs.Lining.{line_tells}
 use Rattle.cards.proofs.Shaping.{parted_parts, parted_is}
 use Rattle.cards.proofs.Showing.{some_none}
 
-granted_refused : {X A : Type 0} (x : X) (t : Told) → granted x ≡ refused t → A
-granted_refused x t e = let z : ◌≡◌ {A = ℕ} 0 1 = cc in absurd (omega arith)
-
 -- all went well, and that is the sheet
 abbrev well : {M : Type 0} → Sheet M → State M
 well t = record { fault = None; sheet = t }

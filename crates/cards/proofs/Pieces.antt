@@ -32,9 +32,6 @@ first_piece s (b ∷ bs) = go (eqb b s) refl (first_piece s bs)
     go false e (inl h) = inl (record { whole = ap suc h.whole; piece = ap (onto b) h.piece })
     go false e (inr h) = inr (record { below = omega (arith, h.below); piece = ap (onto b) h.piece; at = h.at })
 
-pub reach_within : (s : ℕ) (bs : List ℕ) → reach s bs ≤ length bs
-reach_within s bs = ⊎_elim (λ h. omega (arith, h.whole)) (λ h. omega (arith, h.below)) (first_piece s bs)
-
 -- what stands before the first separator is what `position` finds, or all of it
 reach_position : (s : ℕ) (bs : List ℕ) → reach s bs ≡ position_or_len (λ b. eqb b s) bs
 reach_position s bs = is_position_or_len (reach s) (λ b. eqb b s) refl (λ b bs. step (eqb b s) (reach s bs)) bs

@@ -40,14 +40,6 @@ as_fails n byte H no_way t b e = record { not_so = no_way; told = sym (wrong_tol
 pub from_fails : {X : Type 0} (n byte : ℕ) (H : Type 0) (t : Told) (b : ℕ) → Fails n byte H t b → ◌≡◌ {A = Checked X} (wrong (record { number = n; words = [] }) byte) (wrong t b)
 from_fails n byte H t b f = let p = sym f.told in let q = sym f.at in λ i. wrong (p i) (q i)
 
-pub pure_tells : {X : Type 0} (x : X) → Tells (right x) (λ y. x ≡ y) (λ t b. ⊥)
-pure_tells x = record {
-  right_so = λ y e. right_same x y e;
-  so_right = λ y e. ap right e;
-  wrong_so = λ t b e. right_wrong x t b e;
-  so_wrong = λ t b w. absurd w;
-}
-
 pub wanted_tells : {X : Type 0} (n byte : ℕ) (x : Option X) (R : X → Type 0) → ((a : X) → x ≡ Some a → R a) → ((a : X) → R a → x ≡ Some a)
     → Tells (wanted n byte x) R (Fails n byte ((a : X) × R a))
 wanted_tells n byte None R into back = record {
