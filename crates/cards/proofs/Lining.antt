@@ -5,9 +5,9 @@ use Rattle.arithmetic.specs.Ops.{Ops}
 use Rattle.sheet.specs.declared.kind.Kind.{Kind}
 use Rattle.sheet.specs.declared.kind.Kind.TheVariants.{Resistor, Inductor, Capacitor, VoltageSource, CurrentSource}
 use Rattle.sheet.specs.declared.placement.Placement.{Placement}
-use Rattle.sheet.specs.Kinds.{mark, is_source, kind_lettered}
+use Rattle.sheet.specs.Kinds.{mark, is_source, has_start, kind_lettered}
 use Rattle.sheet.specs.Refusals.{Told}
-use Rattle.cards.specs.Cards.{Checked, right, wrong, then, byte_of, is_empty, has_start, over_of, card_of, lettered, opened, line_of}
+use Rattle.cards.specs.Cards.{Checked, right, wrong, then, byte_of, is_empty, over_of, card_of, lettered, opened, line_of}
 use Rattle.cards.specs.Fields.{Word, Cutting, words, missing, word_end}
 use Rattle.cards.specs.Following.{LineSays}
 use Rattle.cards.specs.Numerals.{number_digits}

@@ -77,11 +77,6 @@ module _ {M : Type 0} (o : Ops M) (s s' : Sheet M) where
     stopped_text P (Ok x) f h is d = let z : ◌≡◌ {A = ℕ} 0 1 = cc in absurd (omega arith)
     stopped_text P (Err e) f h is d = ap (λ f. record { fault = Some (named f); sheet = s' }) (is e h) ∙ refused_text (means e) d
 
--- what a result was before its error was mapped
-pub was_ok : {T E : Type 0} (D : Type 0) (a : Result T E) (y : T) → MatchResult a (λ x. ◌≡◌ {A = Result T D} (Ok y) (Ok x)) (λ _. ⊥) → a ≡ Ok y
-was_ok D (Ok x) y h = cc
-was_ok D (Err e) y h = absurd h
-
 -- what is left to read comes to the whole
 pub record Left {M : Type 0} (o : Ops M) (n : ℕ) (lines : List (List ℕ)) (s : Sheet M) (all : State M) : Type 0 where
   pub comes : lines_done o n lines s ≡ all

@@ -4,10 +4,10 @@ use Rattle.std.proofs.lemmas.Bool.{true≢false}
 use Rattle.arithmetic.specs.Ops.{Ops, may_divide}
 use Rattle.sheet.specs.declared.kind.Kind.{Kind}
 use Rattle.sheet.specs.declared.placement.Placement.{Placement}
-use Rattle.sheet.specs.Kinds.{mark, is_source}
+use Rattle.sheet.specs.Kinds.{mark, is_source, has_start}
 use Rattle.sheet.specs.Refusals.{Told}
 use Rattle.cards.specs.declared.numeral.Numeral.{Numeral}
-use Rattle.cards.specs.Cards.{Checked, right, wrong, then, wanted, barred, byte_of, is_empty, counted, whole_in, amount, measured, value_of, start_of, has_start, over_of, card_of}
+use Rattle.cards.specs.Cards.{Checked, right, wrong, then, wanted, barred, byte_of, is_empty, counted, whole_in, amount, measured, value_of, start_of, over_of, card_of}
 use Rattle.cards.specs.Fields.{Word, Cutting}
 use Rattle.cards.specs.Numerals.{plain, number_digits, signed, ratio}
 use Rattle.cards.specs.Rules.{Means, Fails, FirstWrong, number_check, start_check_by, over_check, card_checks}

@@ -13,7 +13,6 @@
 -- amount       what a numeral is in an arithmetic: a quotient, negated after a minus unless its top is 0
 -- measured     the same, unless its denominator may not be divided by
 -- value_of     the value that a field holds
--- has_start    the kinds that may have a start: inductors and capacitors
 -- start_of     a start: zero where none is written
 -- over_of      the field that would be one too many
 -- card_of      a card of that kind: number, tail, head, value, start, and no field left over
@@ -23,9 +22,8 @@
 use Rattle.std.specs.Prelude.{ℕ, suc, Bool, true, false, cond, not, ◌&&◌, List, [], ◌∷◌, Some, None, Ok, Err, Option, Result, ◌==◌}
 use Rattle.arithmetic.specs.Ops.{Ops, capped, may_divide}
 use Rattle.sheet.specs.declared.kind.Kind.{Kind}
-use Rattle.sheet.specs.declared.kind.Kind.TheVariants.{Resistor, Inductor, Capacitor, VoltageSource, CurrentSource}
 use Rattle.sheet.specs.declared.placement.Placement.{Placement}
-use Rattle.sheet.specs.Kinds.{mark, kind_lettered}
+use Rattle.sheet.specs.Kinds.{mark, kind_lettered, has_start}
 use Rattle.sheet.specs.Meanings.{meant_placement}
 use Rattle.sheet.specs.Refusals.{Told, means}
 use Rattle.cards.specs.declared.fault.Wrong.{Wrong}
@@ -80,13 +78,6 @@ module _ {M : Type 0} (o : Ops M) where
 
   abbrev pub value_of : Kind → Word → Checked M
   value_of k w = then (wanted 22 (byte_of w) (value_text k w.text)) (measured (byte_of w))
-
-abbrev pub has_start : Kind → Bool
-has_start Resistor = false
-has_start Inductor = true
-has_start Capacitor = true
-has_start VoltageSource = false
-has_start CurrentSource = false
 
 abbrev pub over_of : Kind → Cutting → Word
 over_of k c = cond (has_start k) c.sixth c.fifth

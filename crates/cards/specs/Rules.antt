@@ -20,10 +20,10 @@ use Rattle.std.specs.Prelude.{◌≡◌, ℕ, suc, Bool, true, false, not, ◌&&
 use Rattle.arithmetic.specs.Ops.{Ops, may_divide}
 use Rattle.sheet.specs.declared.kind.Kind.{Kind}
 use Rattle.sheet.specs.declared.placement.Placement.{Placement}
-use Rattle.sheet.specs.Kinds.{mark, is_source}
+use Rattle.sheet.specs.Kinds.{mark, is_source, has_start}
 use Rattle.sheet.specs.Refusals.{Told}
 use Rattle.cards.specs.declared.numeral.Numeral.{Numeral}
-use Rattle.cards.specs.Cards.{byte_of, is_empty, whole_in, amount, has_start, over_of}
+use Rattle.cards.specs.Cards.{byte_of, is_empty, whole_in, amount, over_of}
 use Rattle.cards.specs.Fields.{Word, Cutting, missing}
 use Rattle.cards.specs.Numerals.{number_digits}
 use Rattle.cards.specs.Shapes.{Laid, Writes, Shows}

@@ -1,6 +1,6 @@
 // One line: skipped, a card, or wrong.
 ghost use Rattle.std.specs.Prelude.{◌≡◌, not};
-ghost use Rattle.cards.specs.Cards.{checked_by, has_start, value_of, start_of, over_of, card_of, line_of, barred, byte_of, is_empty, right, meant_card};
+ghost use Rattle.cards.specs.Cards.{checked_by, value_of, start_of, over_of, card_of, line_of, barred, byte_of, is_empty, right, meant_card};
 ghost use Rattle.cards.specs.Fields.{seen, seen_cut};
 ghost use Rattle.sheet.specs.Meanings.{meant_placement};
 
@@ -13,16 +13,6 @@ use arithmetic::Arithmetic;
 use sheet::{Kind, Placement, Refusal};
 
 const STAR: u8 = b'*';
-
-// Inductors and capacitors may have a start.
-fn has_start(kind: Kind) -> bool
-    ensures { result ≡ has_start kind }
-{
-    match kind {
-        Kind::Inductor | Kind::Capacitor => true,
-        Kind::Resistor | Kind::VoltageSource | Kind::CurrentSource => false,
-    }
-}
 
 // A minus may stand before the value of a source.
 fn value<N: Arithmetic>(kind: Kind, field: Field) -> Result<N, Wrong>
@@ -40,7 +30,7 @@ fn value<N: Arithmetic>(kind: Kind, field: Field) -> Result<N, Wrong>
 fn start<N: Arithmetic>(kind: Kind, field: Field) -> Result<N, Wrong>
     ensures { checked_by N.mean result ≡ start_of N.ops kind (seen field.entry) }
 {
-    if !has_start(kind) || field.text.is_empty() {
+    if !kind.has_start() || field.text.is_empty() {
         return Ok(N::zero());
     }
     measure(field, signed_of(field.text))
@@ -50,7 +40,7 @@ fn start<N: Arithmetic>(kind: Kind, field: Field) -> Result<N, Wrong>
 fn none_over(kind: Kind, fields: Cut) -> Result<(), Wrong>
     ensures { checked_by (λ u. u) result ≡ barred 24 (byte_of (over_of kind (seen_cut fields.entry))) (not (is_empty (over_of kind (seen_cut fields.entry)).text)) (right tt) }
 {
-    let over = if has_start(kind) {
+    let over = if kind.has_start() {
         fields.sixth
     } else {
         fields.fifth
@@ -77,7 +67,7 @@ fn card<'a, N: Arithmetic>(
     none_over(kind, fields)?;
     Ok(Placement {
         number,
-        kind: kind.number(),
+        kind: u32::from(kind),
         tail,
         head,
         value,
@@ -94,10 +84,15 @@ pub(crate) fn read_line<N: Arithmetic>(line: &[u8]) -> Result<Option<Placement<N
     match first.text {
         [] | [STAR, ..] => Ok(None),
         [letter, number @ ..] => {
-            let kind = Kind::lettered(*letter).ok_or(first.wrong(Refusal::NoSuchLetter))?;
+            // The letter's byte, counted from 1, is the number's place, counted from 0.
+            let place = first.place + 1;
+            let kind = Kind::try_from(*letter).map_err(|refusal| Wrong {
+                refusal,
+                byte: place,
+            })?;
             let number = Field {
                 text: number,
-                place: first.place + 1,
+                place,
             };
             Ok(Some(card(kind, number, fields)?))
         }

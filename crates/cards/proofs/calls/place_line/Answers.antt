@@ -1,7 +1,8 @@
 use Rattle.std.proofs.Common.{sym, ap, ◌∙◌, rules}
 use Rattle.cards.specs.Cards.{right, checked_by, meant_card}
 use Rattle.cards.specs.declared.fault.Fault.{Fault}
-use Rattle.cards.proofs.Placing.{answered_line, was_ok}
+use Rattle.cards.proofs.Chains.{was_ok}
+use Rattle.cards.proofs.Placing.{answered_line}
 use Rattle.cards.proofs.calls.place_line.Goals as goal
 
 pub returns : goal.returns

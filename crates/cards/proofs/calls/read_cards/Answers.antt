@@ -14,7 +14,8 @@ use Rattle.cards.specs.Parts.{parts}
 use Rattle.cards.specs.Reading.{State, lines_done, cards_read}
 use Rattle.cards.proofs.Obeying.{accepts_text, blames_text}
 use Rattle.cards.proofs.Numbering.{line_turn, lines_end}
-use Rattle.cards.proofs.Placing.{Left, started_text, stopped_text, turn_on, turn_ends, turn_stops, was_ok}
+use Rattle.cards.proofs.Chains.{was_ok}
+use Rattle.cards.proofs.Placing.{Left, started_text, stopped_text, turn_on, turn_ends, turn_stops}
 use Rattle.cards.proofs.calls.read_cards.Given as given
 use Rattle.cards.proofs.calls.read_cards.Goals as goal
 
