@@ -1,9 +1,10 @@
 -- Bits put in one after another. Assumes nothing.
-use Rattle.std.proofs.Common.{◌≡◌, ℕ, zero, suc, ◌+◌, ◌-◌, ◌*◌, ◌/◌, ◌%◌, ◌^◌, ◌<◌, ◌≤◌, Bool, true, false, ◌&&◌, List, [], ◌∷◌, ◌++◌, length, get_or, drop, set, ℤ, pos, sym, refl, ap, ◌∙◌, lt_of_lt_of_le, add-zero, add-one, arith, pow_mono, shl_lt}
-use lib.Bits.{bit_and, and_mask}
-use Rattle.std.proofs.lemmas.List.{length-set, at_drop_more, at_drop_all, drop_more}
+use Rattle.std.proofs.Common.{◌≡◌, ℕ, zero, suc, ◌+◌, ◌-◌, ◌*◌, ◌/◌, ◌%◌, ◌^◌, ◌<◌, ◌≤◌, List, [], ◌∷◌, ◌++◌, length, get_or, take, drop, set, replicate, ℤ, pos, sym, refl, ap, ◌∙◌, lt_of_lt_of_le, add-zero, add-one, pow-suc, arith, pow_mono, shl_lt}
+use lib.Bits.{bit_and, bit_or, and_mask}
+use Rattle.std.proofs.Math.Nat.{div-div-eq-div-mul}
+use Rattle.std.proofs.lemmas.List.{length-set, length-take-le, at_drop_more, get_or_append_left, set-append_left, take-append-drop}
 use Rattle.slips.specs.Bits.{put_bit, put_bits, high, low, zeroed}
-use Rattle.slips.specs.Entries.{code_of, is_entry, are_entries, entries_bits}
+use Rattle.slips.specs.Entries.{code_of, entries_bits}
 use Rattle.slips.specs.Slips.{row_bits}
 
 pub shifted : (b e : ℕ) → b < 2 → b * 2 ^ (7 - e) < 256
@@ -12,23 +13,22 @@ shifted b e h = lt_of_lt_of_le (shl_lt 1 (7 - e) h) (pow_mono {j = 8} (omega ari
 pub last_bit : (n : ℕ) → bit_and n 1 ≡ n % 2
 last_bit n = and_mask n 1
 
-pub word-turn : (area : List ℕ) (at n w : ℕ) → 0 < n → put_bits (put_bit area at (w / 2 ^ (n - 1) % 2)) (at + 1) (high (n - 1) w) ≡ put_bits area at (high n w)
+pub word_turn : (area : List ℕ) (at count i w : ℕ) → i < count
+    → put_bits (put_bit area (at + i) (bit_and (w / 2 ^ (count - 1 - i)) 1)) (at + (i + 1)) (high (count - (i + 1)) w) ≡ put_bits area (at + i) (high (count - i) w)
 unfolding put_bits high
-word-turn area at zero w h = absurd (omega arith)
-word-turn area at (suc n) w h = let e : suc n - 1 ≡ n = omega arith in rw e
+word_turn area at count i w h =
+    let e : count - i ≡ suc (count - (i + 1)) = omega arith in
+    let k : count - 1 - i ≡ count - (i + 1) = omega arith in
+    let p : at + (i + 1) ≡ at + i + 1 = omega arith in
+    rw (last_bit (w / 2 ^ (count - 1 - i)), k, p, e)
 
-pub word_done : (area : List ℕ) (at w : ℕ) → put_bits area at (high 0 w) ≡ area
-unfolding put_bits high
-word_done area at w = refl
-
-pub tree_turn : (area : List ℕ) (at n w : ℕ) → 0 < n → put_bits (put_bit area at (w % 2)) (at + 1) (low (n - 1) (w / 2)) ≡ put_bits area at (low n w)
+pub tree_turn : (area : List ℕ) (at w : ℕ) → at < 32
+    → put_bits (put_bit area at (bit_and (w / 2 ^ at) 1)) (at + 1) (low (32 - (at + 1)) (w / 2 ^ (at + 1))) ≡ put_bits area at (low (32 - at) (w / 2 ^ at))
 unfolding put_bits low
-tree_turn area at zero w h = absurd (omega arith)
-tree_turn area at (suc n) w h = let e : suc n - 1 ≡ n = omega arith in rw e
-
-pub tree_done : (area : List ℕ) (at w : ℕ) → put_bits area at (low 0 w) ≡ area
-unfolding put_bits low
-tree_done area at w = refl
+tree_turn area at w h =
+    let e : 32 - at ≡ suc (32 - (at + 1)) = omega arith in
+    let half : w / 2 ^ at / 2 ≡ w / 2 ^ (at + 1) = div-div-eq-div-mul w (2 ^ at) 2 ∙ ap (λ (n : ℕ). w / n) (sym (pow-suc 2 at) ∙ ap (λ (n : ℕ). 2 ^ n) (sym (add-one at))) in
+    rw (last_bit (w / 2 ^ at), e, half)
 
 pub put_bits-append : (area : List ℕ) (at : ℕ) (xs ys : List ℕ) → put_bits area at (xs ++ ys) ≡ put_bits (put_bits area at xs) (at + length xs) ys
 unfolding put_bits
@@ -52,37 +52,37 @@ unfolding low
 length-low zero w = refl
 length-low (suc n) w = ap suc (length-low n (w / 2))
 
-pub entries-turn : (area : List ℕ) (at : ℕ) (es : List ℤ) (i : ℕ) → i < length es
-    → put_bits (put_bits area at (high 2 (code_of (get_or es i (pos 0))))) (at + 2) (entries_bits (drop (i + 1) es)) ≡ put_bits area at (entries_bits (drop i es))
+pub entries_turn : (area : List ℕ) (at : ℕ) (es : List ℤ) (i : ℕ) → i < length es
+    → put_bits (put_bits area (at + 2 * i) (high 2 (code_of (get_or es i (pos 0))))) (at + 2 * (i + 1)) (entries_bits (drop (i + 1) es))
+    ≡ put_bits area (at + 2 * i) (entries_bits (drop i es))
 unfolding entries_bits
-entries-turn area at es i h =
-    let e = get_or es i (pos 0) in
-    ap (λ (n : ℕ). put_bits (put_bits area at (high 2 (code_of e))) (at + n) (entries_bits (drop (i + 1) es))) (sym (length_high 2 (code_of e)))
-    ∙ sym (put_bits-append area at (high 2 (code_of e)) (entries_bits (drop (i + 1) es)))
-    ∙ ap (λ (x : List ℤ). put_bits area at (entries_bits x)) (sym (drop_more es i (pos 0) h))
+entries_turn area at es i h =
+    let e = high 2 (code_of (get_or es i (pos 0))) in
+    ap (λ (n : ℕ). put_bits (put_bits area (at + 2 * i) e) n (entries_bits (drop (i + 1) es))) (omega (arith, length_high 2 (code_of (get_or es i (pos 0)))))
+    ∙ sym (put_bits-append area (at + 2 * i) e (entries_bits (drop (i + 1) es)))
+    ∙ sym (at_drop_more (λ (xs : List ℤ). put_bits area (at + 2 * i) (entries_bits xs)) es i (pos 0) h)
 
-pub entries_done : (area : List ℕ) (at : ℕ) (es : List ℤ) (i : ℕ) → length es ≤ i → put_bits area at (entries_bits (drop i es)) ≡ area
-unfolding entries_bits put_bits
-entries_done area at es i h = at_drop_all (λ (x : List ℤ). put_bits area at (entries_bits x)) es i h
+-- an area longer than the bits reach
+pub put_bits-front : (xs ys : List ℕ) (at : ℕ) (bs : List ℕ) → at + length bs ≤ 8 * length xs → put_bits (xs ++ ys) at bs ≡ put_bits xs at bs ++ ys
+unfolding put_bits
+put_bits-front xs ys at [] h = refl
+put_bits-front xs ys at (b ∷ bs) h =
+    let k : at / 8 < length xs = omega arith in
+    let e : put_bit (xs ++ ys) at b ≡ put_bit xs at b ++ ys =
+    ap (λ (n : ℕ). set (xs ++ ys) (at / 8) (bit_or n (b * 2 ^ (7 - at % 8)))) (get_or_append_left xs ys 0 (at / 8) k) ∙ set-append_left xs ys (at / 8) _ k
+    in
+    ap (λ (zs : List ℕ). put_bits zs (at + 1) bs) e ∙ put_bits-front (put_bit xs at b) ys (at + 1) bs (omega (arith, length-set {A = ℕ}))
+
+pub put_bits_first : (area : List ℕ) (at : ℕ) (bs : List ℕ) → 280 ≤ length area → at + length bs ≤ 2240 → put_bits (take 280 area) at bs ++ drop 280 area ≡ put_bits area at bs
+put_bits_first area at bs w h =
+    sym (put_bits-front (take 280 area) (drop 280 area) at bs (omega (arith, length-take-le 280 area w)))
+    ∙ ap (λ (xs : List ℕ). put_bits xs at bs) (take-append-drop 280 area)
 
 pub row_put : (area : List ℕ) (at number : ℕ) (es : List ℤ) → put_bits (put_bits area at (high 5 number)) (at + 5) (entries_bits es) ≡ put_bits area at (row_bits number es)
 unfolding row_bits
 row_put area at number es =
     ap (λ (n : ℕ). put_bits (put_bits area at (high 5 number)) (at + n) (entries_bits es)) (sym (length_high 5 number))
     ∙ sym (put_bits-append area at (high 5 number) (entries_bits es))
-
--- the test of a list of entries, from an entry on
-pub entry_fails : (es : List ℤ) (i : ℕ) → i < length es → is_entry (get_or es i (pos 0)) ≡ false → are_entries (drop i es) ≡ false
-unfolding are_entries
-entry_fails es i h e = at_drop_more are_entries es i (pos 0) h ∙ ap (λ (b : Bool). b && are_entries (drop (i + 1) es)) e
-
-pub entry_passes : (es : List ℤ) (i : ℕ) → i < length es → is_entry (get_or es i (pos 0)) ≡ true → are_entries (drop (i + 1) es) ≡ are_entries (drop i es)
-unfolding are_entries
-entry_passes es i h e = sym (at_drop_more are_entries es i (pos 0) h ∙ ap (λ (b : Bool). b && are_entries (drop (i + 1) es)) e)
-
-pub entries_pass : (es : List ℤ) (i : ℕ) → length es ≤ i → are_entries (drop i es) ≡ true
-unfolding are_entries
-entries_pass es i h = at_drop_all are_entries es i h
 
 -- ---- the area with its first bytes zero
 pub length-zeroed : (n : ℕ) (area : List ℕ) → length (zeroed n area) ≡ length area
@@ -91,16 +91,8 @@ length-zeroed zero area = refl
 length-zeroed (suc n) [] = refl
 length-zeroed (suc n) (x ∷ area) = ap suc (length-zeroed n area)
 
-pub zeroed_more : (area : List ℕ) (n : ℕ) → set (zeroed n area) n 0 ≡ zeroed (n + 1) area
+pub zeroed_is : (n : ℕ) (area : List ℕ) → n ≤ length area → replicate n 0 ++ drop n area ≡ zeroed n area
 unfolding zeroed
-zeroed_more area n = rw add-one (go area n)
-  where
-    go : (xs : List ℕ) (n : ℕ) → set (zeroed n xs) n 0 ≡ zeroed (suc n) xs
-    go [] zero = refl
-    go [] (suc n) = refl
-    go (x ∷ xs) zero = refl
-    go (x ∷ xs) (suc n) = ap (λ (ys : List ℕ). 0 ∷ ys) (go xs n)
-
-pub zeroed-none : (area : List ℕ) → zeroed 0 area ≡ area
-unfolding zeroed
-zeroed-none area = refl
+zeroed_is zero area h = refl
+zeroed_is (suc n) [] h = absurd (omega arith)
+zeroed_is (suc n) (x ∷ area) h = ap (λ (ys : List ℕ). 0 ∷ ys) (zeroed_is n area (omega arith))

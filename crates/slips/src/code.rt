@@ -3,25 +3,23 @@ ghost use Rattle.std.specs.Prelude.{◌≡◌, ◌<◌, true, length};
 ghost use Rattle.slips.specs.Entries.{code_of, is_entry, are_entries, is_in, entry_at, entries_of};
 
 use sheet::Shown;
+use std::array;
 
 // 00 for 0, 01 for +1, 11 for -1.
 pub(crate) fn code_of(entry: i8) -> u32
     ensures { result ≡ code_of entry }
 {
-    let (plus, minus) = (0b01, 0b11);
-    if entry == 1 {
-        plus
-    } else if entry < 0 {
-        minus
-    } else {
-        0
+    match entry {
+        1 => 0b01,
+        e if e < 0 => 0b11,
+        _ => 0b00,
     }
 }
 
 pub(crate) fn is_entry(entry: i8) -> bool
     ensures { result ≡ is_entry entry }
 {
-    entry >= -1 && entry <= 1
+    matches!(entry, -1 | 0 | 1)
 }
 
 fn is_in(place: u32, word: u32) -> bool
@@ -51,9 +49,5 @@ pub fn entries_of(row: Shown) -> [i8; 32]
     ensures count { length result ≡ 32 }
     ensures signs { are_entries result ≡ true }
 {
-    let mut entries = [0; 32];
-    for place in 0..32 {
-        entries[place as usize] = entry_at(row, place);
-    }
-    entries
+    array::from_fn(|place| entry_at(row, place as u32))
 }

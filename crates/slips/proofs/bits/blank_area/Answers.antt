@@ -1,6 +1,8 @@
-use Rattle.std.proofs.Common.{◌≡◌, ℕ, List, sym, ◌∙◌, subst}
+use Rattle.std.proofs.Common.{◌≡◌, ℕ, ◌++◌, List, drop, replicate, sym, ap, ◌∙◌, subst, arith, rules}
+use Rattle.std.proofs.lemmas.List.{length-take-le}
 use Rattle.slips.specs.Writing.{blanked, Past}
 use Rattle.slips.proofs.Ending.{blanked_short, blanked_wide, blanked_past}
+use Rattle.slips.proofs.Putting.{zeroed_is}
 use Rattle.slips.proofs.bits.blank_area.Goals as goal
 
 after_blanking : (area area' : List ℕ) → area' ≡ blanked area → Past area area'
@@ -8,8 +10,14 @@ after_blanking area area' e = subst (Past area) (sym e) (blanked_past area)
 
 pub returns-then-area-ge280 : goal.returns-then-area-ge280
 returns-then-area-ge280 c =
-    let is = c.zero_area.ensures ∙ sym (blanked_wide c.args.area.now c.if-area-ge280.true) in
-    record { area = is; past = after_blanking c.args.area.now _ is }
+    let area = c.args.area.now in
+    let n = length-take-le 280 area c.if-area-ge280.true in
+    let is : c.fill.new.self ++ drop 280 area ≡ blanked area =
+    ap (λ (xs : List ℕ). xs ++ drop 280 area) (c.fill.ensures.after (search rules) ∙ ap (λ (k : ℕ). replicate k 0) n)
+    ∙ zeroed_is 280 area (omega arith)
+    ∙ sym (blanked_wide area c.if-area-ge280.true)
+    in
+    record { area = is; past = after_blanking area _ is }
 
 pub returns-else-area-ge280 : goal.returns-else-area-ge280
 returns-else-area-ge280 c =

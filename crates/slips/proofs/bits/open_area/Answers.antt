@@ -1,22 +1,28 @@
-use Rattle.std.proofs.Common.{◌≡◌, ℕ, List, sym, ap, ◌∙◌, subst}
+use Rattle.std.proofs.Common.{◌≡◌, ℕ, ◌≤◌, ◌++◌, List, length, drop, sym, ap, ◌∙◌, subst, arith, rules}
 use Rattle.slips.specs.Bits.{put_bits, low}
 use Rattle.slips.specs.Writing.{opened, Past}
-use Rattle.slips.proofs.Ending.{opened_short, opened_wide, opened_past}
+use Rattle.slips.proofs.Ending.{blanked_short, blanked_wide, opened_short, opened_wide, opened_past}
+use Rattle.slips.proofs.Putting.{length-low, put_bits_first}
 use Rattle.slips.proofs.bits.open_area.Goals as goal
 
 after_opening : (tree : ℕ) (area area' : List ℕ) → area' ≡ opened tree area → Past area area'
 after_opening tree area area' e = subst (Past area) (sym e) (opened_past tree area)
 
-pub returns-then-area-ge280 : goal.returns-then-area-ge280
-returns-then-area-ge280 c =
+pub returns-in-Some : goal.returns-in-Some
+returns-in-Some c =
     let area = c.args.area.now in
-    let is : c.put_tree.new.area ≡ opened c.args.tree area =
-    c.put_tree.ensures ∙ ap (λ (xs : List ℕ). put_bits xs 0 (low 32 c.args.tree)) c.zero_area.ensures
-    ∙ sym (opened_wide c.args.tree area c.if-area-ge280.true)
+    let blank = c.blank_area.new.area in
+    let wide : 280 ≤ length blank = c.in-Some.ensures.cases.enough in
+    let is : c.put_tree.new.area ++ drop 280 blank ≡ opened c.args.tree area =
+    ap (λ (xs : List ℕ). xs ++ drop 280 blank) (c.put_tree.ensures ∙ ap (λ (xs : List ℕ). put_bits xs 0 (low 32 c.args.tree)) c.in-Some.ensures.cases.same)
+    ∙ put_bits_first blank 0 (low 32 c.args.tree) wide (omega (arith, length-low 32 c.args.tree))
+    ∙ ap (λ (xs : List ℕ). put_bits xs 0 (low 32 c.args.tree)) (c.blank_area.ensures.area ∙ blanked_wide area (omega (arith, c.blank_area.auto.area)))
+    ∙ sym (opened_wide c.args.tree area (omega (arith, c.blank_area.auto.area)))
     in
     record { area = is; past = after_opening c.args.tree area _ is }
 
-pub returns-else-area-ge280 : goal.returns-else-area-ge280
-returns-else-area-ge280 c =
-    let is = sym (opened_short c.args.tree c.args.area.now c.if-area-ge280.false) in
-    record { area = is; past = after_opening c.args.tree c.args.area.now _ is }
+pub returns-in_default : goal.returns-in_default
+returns-in_default c =
+    let area = c.args.area.now in
+    let is = c.blank_area.ensures.area ∙ blanked_short area (search rules) ∙ sym (opened_short c.args.tree area (search rules)) in
+    record { area = is; past = after_opening c.args.tree area _ is }

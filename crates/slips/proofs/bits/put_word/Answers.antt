@@ -1,21 +1,17 @@
-use Rattle.std.proofs.Common.{◌≡◌, ℕ, ◌+◌, ◌-◌, List, sym, ap, ◌∙◌, arith}
-use Rattle.slips.specs.Bits.{put_bit, put_bits, high}
-use Rattle.slips.proofs.Putting.{word-turn, word_done, last_bit}
+use Rattle.std.proofs.Common.{◌≡◌, ℕ, ◌+◌, ◌-◌, List, ap, ◌∙◌, arith}
+use Rattle.slips.specs.Bits.{put_bits, high}
+use Rattle.slips.proofs.Putting.{word_turn}
 use Rattle.slips.proofs.bits.put_word.Goals as goal
 
-pub loop-left-preserved : goal.loop-left-preserved
-loop-left-preserved c = (
-  omega arith,
-  omega arith,
-  ap (λ (a : List ℕ). put_bits a (c.loop-left.place + 1) (high (c.loop-left.left - 1) c.args.word))
-      (c.put_bit.ensures ∙ ap (put_bit c.loop-left.area c.loop-left.place) (last_bit _))
-      ∙ word-turn c.loop-left.area c.loop-left.place c.loop-left.left c.args.word (omega arith)
-      ∙ c.loop-left.invariant.2,
-)
+pub loop-i-preserved : goal.loop-i-preserved
+loop-i-preserved c =
+    let i = c.loop-i.i in
+    ap (λ (a : List ℕ). put_bits a (c.args.at + (i + 1)) (high (c.args.count - (i + 1)) c.args.word)) c.put_bit.ensures
+    ∙ word_turn c.loop-i.area c.args.at c.args.count i c.args.word (omega arith)
+    ∙ c.loop-i.invariant
 
 pub returns : goal.returns
+unfolding put_bits high
 returns c =
-    let z : c.loop-left.left ≡ 0 = omega arith in
-    sym (word_done c.loop-left.area c.loop-left.place c.args.word)
-    ∙ ap (λ (n : ℕ). put_bits c.loop-left.area c.loop-left.place (high n c.args.word)) (sym z)
-    ∙ c.loop-left.invariant.2
+    let z : c.args.count - c.loop-i.i ≡ 0 = omega arith in
+    rw z at c.loop-i.invariant

@@ -12,7 +12,6 @@ returns c =
       area = is;
       place = refl;
       next = refl;
-      unsealed = refl;
       past = c.open_area.ensures.past;
       holds = λ r. subst (λ (xs : List ℕ). Holds (record { tree = c.args.tree; rows = [] }) xs 32 0) (sym is) (opened_holds c.args.tree area (omega arith) r);
     }

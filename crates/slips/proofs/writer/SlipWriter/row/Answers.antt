@@ -1,22 +1,17 @@
-use Rattle.std.proofs.Common.{◌+◌, refl, rules}
+use Rattle.std.proofs.Common.{◌+◌, rules}
 use Rattle.sheet.specs.Refusals.{pass}
 use Rattle.slips.specs.Writing.{Given}
 use Rattle.slips.proofs.Holding.{given_holds, given_past}
 use Rattle.slips.proofs.writer.SlipWriter.row.Goals as goal
 
-pub returns : goal.returns
-returns c =
-    let area = c.args.self.now.area.now in
-    let at = c.args.self.now.counters.at in
-    let next = c.args.self.now.counters.next in
-    let number = c.args.number in
-    let es = c.args.entries.now in
-    let d : Given area at next number es pass c.put_row.new.area (at + 69) (number + 1) = search rules in
-    record {
-      lender = refl;
-      lengths = search rules;
-      does = d;
-      unsealed = refl;
-      past = given_past area at next number es c.args.self.now.counters.room _ _ _ _ d;
-      holds = λ s h. given_holds s area at next number es c.args.self.now.counters.room h _ _ _ _ d;
-    }
+pub returns-clause-past : goal.returns-clause-past
+returns-clause-past c =
+    let w = c.args.self.now in
+    let d : Given w.area.now w.counters.at w.counters.next c.args.number c.args.entries.now pass c.put_row.new.area (w.counters.at + 69) (c.args.number + 1) = search rules in
+    given_past w.area.now w.counters.at w.counters.next c.args.number c.args.entries.now w.counters.room _ _ _ _ d
+
+pub returns-clause-holds : goal.returns-clause-holds
+returns-clause-holds c s h =
+    let w = c.args.self.now in
+    let d : Given w.area.now w.counters.at w.counters.next c.args.number c.args.entries.now pass c.put_row.new.area (w.counters.at + 69) (c.args.number + 1) = search rules in
+    given_holds s w.area.now w.counters.at w.counters.next c.args.number c.args.entries.now w.counters.room h _ _ _ _ d
