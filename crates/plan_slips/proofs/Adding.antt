@@ -1,42 +1,69 @@
 -- One loop row more, and all of them. Assumes nothing.
-use Rattle.std.proofs.Common.{◌≡◌, ℕ, ◌+◌, ◌<◌, List, [], ◌∷◌, ◌++◌, length, take, set, Some, None, Option, sym, ap, ◌∙◌, subst, append-nil, add-one}
-use Rattle.std.proofs.lemmas.List.{take_more_set}
+use Rattle.std.proofs.Common.{◌≡◌, ℕ, zero, suc, ◌+◌, ◌-◌, ◌<◌, ◌≤◌, List, [], ◌∷◌, ◌++◌, length, Some, Option, Result, MatchResult, sym, ap, ◌∙◌, subst, append-nil, append_assoc, add-zero, add-one, add-suc, arith}
 use Rattle.sheet.specs.declared.plan.Plan.{Plan}
 use Rattle.sheet.specs.declared.refusal.Shown.{Shown}
-use Rattle.sheet.specs.Refusals.{Answer, granted, refused, after, Told}
+use Rattle.sheet.specs.declared.refusal.Refusal.{Refusal}
+use Rattle.sheet.specs.Refusals.{granted, refused, after, told, Told}
 use Rattle.slips.specs.declared.row.SlipRow.{SlipRow}
-use Rattle.slips.specs.Entries.{entries_of}
+use Rattle.slips.specs.Writing.{opened, blanked, slip_answer, Holds, ReadsBack}
+use Rattle.slips.proofs.Whole.{Written, Slipped, none_written}
 use Rattle.topology.specs.Trees.{tree_of, loop_of, loop_row_of}
-use Rattle.plan_slips.specs.Own.{row_of, own_rows}
+use Rattle.plan_slips.specs.Own.{row_of, own_rows, OwnSlip}
 
-abbrev what : {X : Type 0} → X → Answer X → X
-what d (granted x) = x
-what d (refused t) = d
-
-abbrev Refuses : {X : Type 0} → Answer X → Type 0
-Refuses (granted x) = ⊥
-Refuses (refused t) = Unit {0}
-
-of_tree : (p : Plan) (w k : ℕ) → tree_of p ≡ granted w → loop_row_of p k ≡ granted (loop_of p w k)
+pub of_tree : (p : Plan) (w k : ℕ) → tree_of p ≡ granted w → loop_row_of p k ≡ granted (loop_of p w k)
 unfolding loop_row_of
 of_tree p w k t = ap (λ a. after a (λ tree. granted (loop_of p tree k))) t
 
-pub link_row : (p : Plan) (w k : ℕ) (x : Option Shown) → granted x ≡ loop_row_of p k → tree_of p ≡ granted w → x ≡ loop_of p w k
-link_row p w k x e t = ap (what x) (e ∙ of_tree p w k t)
+pub link_row : (p : Plan) (w k : ℕ) {x : Option Shown} → granted x ≡ loop_row_of p k → tree_of p ≡ granted w → x ≡ loop_of p w k
+link_row p w k e t = let f = of_tree p w k t in cc
 
-pub no_refusal : (p : Plan) (w k : ℕ) (t : Told) → refused t ≡ loop_row_of p k → tree_of p ≡ granted w → ⊥
-no_refusal p w k t e g = subst Refuses (e ∙ of_tree p w k g) tt
+pub no_refusal : (p : Plan) (w k : ℕ) {t : Told} → refused t ≡ loop_row_of p k → tree_of p ≡ granted w → ⊥
+no_refusal p w k e t = let f = of_tree p w k t in cc
 
--- a link's row is put at the end of the first so many
-pub one_more : (p : Plan) (w k : ℕ) (rows : List SlipRow) (n : ℕ) (s : Shown) (r : SlipRow) → n < length rows
-    → r ≡ record { number = k; entries = entries_of s.members s.against } → Some s ≡ loop_of p w k
-    → take (n + 1) (set rows n r) ≡ take n rows ++ row_of k (loop_of p w k)
-one_more p w k rows n s r h is link = take_more_set rows n r h ∙ ap (λ x. take n rows ++ x ∷ []) is ∙ ap (λ x. take n rows ++ row_of k x) link
+same_tree : (p : Plan) {w v : ℕ} → granted w ≡ tree_of p → tree_of p ≡ granted v → w ≡ v
+same_tree p e f = cc
 
-pub none_more : (p : Plan) (w k : ℕ) (rows : List SlipRow) (n : ℕ) → None ≡ loop_of p w k → take n rows ≡ take n rows ++ row_of k (loop_of p w k)
-none_more p w k rows n none = sym (append-nil (take n rows)) ∙ ap (λ x. take n rows ++ row_of k x) none
+-- before the first row
+pub begun : (p : Plan) {w v : ℕ} {area a : List ℕ} {at next : ℕ} → granted w ≡ tree_of p → tree_of p ≡ granted v → a ≡ opened w area → at ≡ 32 → next ≡ 0
+    → (280 ≤ length area → Holds (record { tree = w; rows = [] }) a at next) → Written v (own_rows p v 0) area a at next
+unfolding own_rows
+begun p {w} {v} {area} {a} {at} {next} e f is x y h = subst (λ z. Written z [] area a at next) (same_tree p e f) (none_written w area is x y h)
+
+-- at the end
+pub own_slip : {p : Plan} {w : ℕ} {area b : List ℕ} {r : Result ℕ Refusal} → granted w ≡ tree_of p → Slipped (record { tree = w; rows = own_rows p w 32 }) area b r → OwnSlip p area b r
+own_slip {p} {w} {area} {b} {r} e s = record {
+  refuses = λ t f. cc;
+  answers = λ v f. subst (λ z. told r ≡ slip_answer (length area) (own_rows p z 32)) (same_tree p e f) s.answers;
+  writes = λ v f. subst (λ z. MatchResult r (ReadsBack (record { tree = z; rows = own_rows p z 32 }) b) (λ _. b ≡ blanked area)) (same_tree p e f) s.slip;
+  past = s.past;
+}
 
 -- the rows below the next number
-pub own_more : (p : Plan) (w k : ℕ) (xs : List SlipRow) → xs ≡ own_rows p w k ++ row_of k (loop_of p w k) → xs ≡ own_rows p w (k + 1)
+pub row_more : (p : Plan) (w k : ℕ) {x : Option Shown} → x ≡ loop_of p w k → own_rows p w k ++ row_of k x ≡ own_rows p w (k + 1)
 unfolding own_rows
-own_more p w k xs e = e ∙ sym (ap (own_rows p w) (add-one k))
+row_more p w k e = ap (λ y. own_rows p w k ++ row_of k y) e ∙ sym (ap (own_rows p w) (add-one k))
+
+-- the rows from k on
+rows_from : Plan → ℕ → ℕ → ℕ → List SlipRow
+rows_from p w k zero = []
+rows_from p w k (suc n) = rows_from p w k n ++ row_of (k + n) (loop_of p w (k + n))
+
+rows_split : (p : Plan) (w k n : ℕ) → own_rows p w k ++ rows_from p w k n ≡ own_rows p w (k + n)
+unfolding own_rows rows_from
+rows_split p w k zero = append-nil (own_rows p w k) ∙ sym (ap (own_rows p w) (add-zero k))
+rows_split p w k (suc n) =
+    sym (append_assoc (own_rows p w k) (rows_from p w k n) (row_of (k + n) (loop_of p w (k + n))))
+    ∙ ap (λ xs. xs ++ row_of (k + n) (loop_of p w (k + n))) (rows_split p w k n)
+    ∙ sym (ap (own_rows p w) (add-suc k n))
+
+pub rows_after : Plan → ℕ → ℕ → List SlipRow
+rows_after p w k = rows_from p w (k + 1) (31 - k)
+
+pub rows_whole : (p : Plan) (w k : ℕ) {s : Shown} {r : SlipRow} → k < 32 → Some s ≡ loop_of p w k → row_of k (Some s) ≡ r ∷ [] → own_rows p w k ++ r ∷ rows_after p w k ≡ own_rows p w 32
+unfolding rows_after
+rows_whole p w k {s} {r} h e is =
+    sym (append_assoc (own_rows p w k) (r ∷ []) (rows_from p w (k + 1) (31 - k)))
+    ∙ ap (λ xs. own_rows p w k ++ xs ++ rows_from p w (k + 1) (31 - k)) (sym is)
+    ∙ ap (λ xs. xs ++ rows_from p w (k + 1) (31 - k)) (row_more p w k e)
+    ∙ rows_split p w (k + 1) (31 - k)
+    ∙ ap (own_rows p w) (omega arith)
