@@ -10,7 +10,7 @@
 -- reading_of     the reading of a float
 -- Reads          the reading of a float, by bounds on its exact value
 -- reading_at     the answer at a place of a sheet
-use Rattle.std.specs.Prelude.{◌≡◌, ℕ, ◌+◌, ◌*◌, ◌/◌, ◌<◌, ◌≤◌, Bool, true, false, List, [], length, get_or, ℤ, pos, neg_ℤ, nat_le, Float}
+use Rattle.std.specs.Prelude.{◌≡◌, ℕ, ◌+◌, ◌*◌, ◌/◌, ◌<◌, ◌≤◌, Bool, true, false, List, [], length, ℤ, pos, neg_ℤ, nat_le, slice_index_or, Float}
 use Rattle.std.specs.Float.{nan, inf, fin, binary64}
 use Rattle.std.specs.Float.Ieee.{up, down, mul}
 use Rattle.sheet.specs.declared.plan.Plan.{Plan}
@@ -57,4 +57,4 @@ abbrev pub reading_at : Plan → List (Row Float) → ℕ → Answer ℤ
 reading_at plan rows k =
     on_place (length rows) k
     (after (present (branch_at plan k)) (λ _.
-    reading_of (thousandths (get_or rows k (record { value = nought; start = nought; current = nought; voltage = nought })).voltage)))
+    reading_of (thousandths (slice_index_or rows k (record { value = nought; start = nought; current = nought; voltage = nought })).voltage)))

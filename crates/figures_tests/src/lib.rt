@@ -27,35 +27,15 @@ pub fn three_entries() -> [i8; 32] {
     entries
 }
 
-// Whether two parts hold the same bytes.
-pub fn same(a: &[u8], b: &[u8]) -> bool {
-    if a.len() != b.len() {
-        return false;
-    }
-    for (x, y) in a.iter().zip(b.iter()) {
-        if *x != *y {
-            return false;
-        }
-    }
-    true
-}
-
 // Whether a part of an area is that byte throughout.
 pub fn all_are(part: &[u8], byte: u8) -> bool {
-    for b in part {
-        if *b != byte {
-            return false;
-        }
-    }
-    true
+    part.iter().all(|b| *b == byte)
 }
 
 // Numbers rows from 0 on.
 pub fn number_rows(rows: &mut [SlipRow]) {
-    let mut number: u32 = 0;
-    for row in rows.iter_mut() {
+    for (number, row) in (0..u32::MAX).zip(rows.iter_mut()) {
         row.number = number;
-        number = number.wrapping_add(1);
     }
 }
 

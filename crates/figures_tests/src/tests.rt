@@ -1,6 +1,6 @@
 use crate::{
-    FILLED, all_are, number_of, number_rows, row_alone, same, sheet_with, three_entries,
-    tree_alone, two_rows, written, zero_row,
+    FILLED, all_are, number_of, number_rows, row_alone, sheet_with, three_entries, tree_alone,
+    two_rows, written, zero_row,
 };
 use figures::{Trace, reading, reading_of};
 use sheet::Shown;
@@ -15,7 +15,7 @@ fn known_slip(rt: HostRuntime) {
         written(&mut area, 5, &[SlipRow { number: 1, entries }]),
         Some(13)
     );
-    assert!(rt; same(&area[0..6], &[0xA0, 0x00, 0x00, 0x00, 0x0E, 0xA0]));
+    assert!(rt; area[0..6] == [0xA0, 0x00, 0x00, 0x00, 0x0E, 0xA0]);
     assert!(rt; all_are(&area[6..280], 0));
     assert!(rt; all_are(&area[280..300], FILLED));
 }
@@ -31,7 +31,7 @@ fn areas(rt: HostRuntime) {
     assert!(rt; all_are(&short, FILLED));
     let mut exact = [FILLED; 280];
     assert_eq!(rt; tree_alone(&mut exact, 0x8000_0001), Some(4));
-    assert!(rt; same(&exact[0..4], &[0x80, 0x00, 0x00, 0x01]));
+    assert!(rt; exact[0..4] == [0x80, 0x00, 0x00, 0x01]);
     assert!(rt; all_are(&exact[4..280], 0));
     let mut longer = [FILLED; 282];
     assert_eq!(rt; row_alone(&mut longer, 5, 31, &entries), 0);
@@ -45,17 +45,17 @@ fn refused_rows(rt: HostRuntime) {
     let entries = three_entries();
     let mut alone = [FILLED; 280];
     assert!(rt; two_rows(&mut alone, [1, 1], &entries, 16, 13));
-    assert!(rt; same(&alone[0..6], &[0xA0, 0x00, 0x00, 0x00, 0x0E, 0xA0]));
+    assert!(rt; alone[0..6] == [0xA0, 0x00, 0x00, 0x00, 0x0E, 0xA0]);
     assert!(rt; all_are(&alone[6..280], 0));
     let mut area = [FILLED; 280];
     assert!(rt; two_rows(&mut area, [1, 0], &entries, 16, 13));
-    assert!(rt; same(&area, &alone));
+    assert!(rt; area == alone);
     assert!(rt; two_rows(&mut area, [1, 32], &entries, 16, 13));
-    assert!(rt; same(&area, &alone));
+    assert!(rt; area == alone);
     assert!(rt; two_rows(&mut area, [1, 2], &entries[0..31], 16, 13));
-    assert!(rt; same(&area, &alone));
+    assert!(rt; area == alone);
     assert!(rt; two_rows(&mut area, [1, 2], &[2; 32], 16, 13));
-    assert!(rt; same(&area, &alone));
+    assert!(rt; area == alone);
 }
 
 // Row 0 comes first, and row 31 after it: 32 + 2 * 69 bits are 22 bytes.
@@ -63,7 +63,7 @@ fn refused_rows(rt: HostRuntime) {
 fn two_rows_apart(rt: HostRuntime) {
     let mut area = [FILLED; 280];
     assert!(rt; two_rows(&mut area, [0, 31], &[-1; 32], 0, 22));
-    assert!(rt; same(&area[0..6], &[0xA0, 0x00, 0x00, 0x00, 0x06, 0xA0]));
+    assert!(rt; area[0..6] == [0xA0, 0x00, 0x00, 0x00, 0x06, 0xA0]);
     assert!(rt; all_are(&area[6..12], 0));
     assert_eq!(rt; area[12], 0x07);
     assert!(rt; all_are(&area[13..21], 0xFF));
