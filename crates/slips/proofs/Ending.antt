@@ -22,18 +22,18 @@ pub opened_wide : (tree : ℕ) (area : List ℕ) → 280 ≤ length area → ope
 unfolding opened
 opened_wide tree area h = ap (λ (b : Bool). cond b area (put_bits (zeroed 280 area) 0 (low 32 tree))) (le-ltb (length area) 280 h)
 
-pub blanked_past : (area : List ℕ) → Past area (blanked area)
-blanked_past area k h = go (dec_lt (length area) 280)
+pub blanked_past : (area : List ℕ) {area' : List ℕ} → area' ≡ blanked area → Past area area'
+blanked_past area e k h = ap (λ (xs : List ℕ). get_or xs k 0) e ∙ go (dec_lt (length area) 280)
   where
     go : Dec (length area < 280) → get_or (blanked area) k 0 ≡ get_or area k 0
     go (yes l) = ap (λ (xs : List ℕ). get_or xs k 0) (blanked_short area l)
     go (no l) = ap (λ (xs : List ℕ). get_or xs k 0) (blanked_wide area (omega arith)) ∙ zeroed_past 280 area k h
 
-pub blanked_zeros : (area : List ℕ) → 280 ≤ length area → Blank (blanked area)
-blanked_zeros area r k h = ap (λ (xs : List ℕ). get_or xs k 0) (blanked_wide area r) ∙ zeroed-below 280 area k h
+pub blanked_zeros : (area : List ℕ) {area' : List ℕ} → area' ≡ blanked area → 280 ≤ length area → Blank area'
+blanked_zeros area e r k h = ap (λ (xs : List ℕ). get_or xs k 0) (e ∙ blanked_wide area r) ∙ zeroed-below 280 area k h
 
-pub opened_past : (tree : ℕ) (area : List ℕ) → Past area (opened tree area)
-opened_past tree area k h = go (dec_lt (length area) 280)
+pub opened_past : (tree : ℕ) (area : List ℕ) {area' : List ℕ} → area' ≡ opened tree area → Past area area'
+opened_past tree area e k h = ap (λ (xs : List ℕ). get_or xs k 0) e ∙ go (dec_lt (length area) 280)
   where
     go : Dec (length area < 280) → get_or (opened tree area) k 0 ≡ get_or area k 0
     go (yes l) = ap (λ (xs : List ℕ). get_or xs k 0) (opened_short tree area l)

@@ -48,7 +48,7 @@ none_written tree area e p f h = record {
   holds = h;
   place = p;
   rest = λ more. ap (λ (n : ℕ). rows_answer (length area) n more) (sym f);
-  past = subst (Past area) (sym e) (opened_past tree area);
+  past = opened_past tree area e;
 }
 
 abbrev pub row_of : ℕ → List ℤ → SlipRow
@@ -144,7 +144,7 @@ ended {tree} {rows} {area} {a} {at} {next} w number es more {all} whole x {a'} g
     record {
       answers = ap told e ∙ row_refused w number es (means x) more g.answers ∙ ap (slip_answer (length area)) whole;
       slip = subst (λ (q : Result ℕ Refusal). MatchResult q (ReadsBack (record { tree = tree; rows = all }) b) (λ _. b ≡ blanked area)) (sym e) blank;
-      past = subst (Past area) (sym blank) (blanked_past area);
+      past = blanked_past area blank;
     }
 
 pub told_apart : ToldApart

@@ -1,4 +1,5 @@
-// Bits put into an area that holds zero bits there.
+// Bits put into an area that holds zero bits there. Each call is told its place: a pen that keeps area and place would owe
+// two clauses more at every call, which area it writes to and where it stands.
 ghost use Rattle.std.specs.Prelude.{◌≡◌, ◌+◌, ◌<◌, ◌≤◌};
 ghost use Rattle.slips.specs.Writing.{opened, blanked, Past};
 ghost use Rattle.slips.specs.Bits.{put_bit, put_bits, high, low};

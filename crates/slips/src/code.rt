@@ -5,7 +5,8 @@ ghost use Rattle.slips.specs.Entries.{code_of, is_entry, are_entries, is_in, ent
 use sheet::Shown;
 use std::array;
 
-// 00 for 0, 01 for +1, 11 for -1.
+// 00 for 0, 01 for +1, 11 for -1. An entry comes as any i8, since a row with another is refused by 16: a narrower type
+// would ask more of the caller.
 pub(crate) fn code_of(entry: i8) -> u32
     ensures { result ≡ code_of entry }
 {
@@ -22,6 +23,7 @@ pub(crate) fn is_entry(entry: i8) -> bool
     matches!(entry, -1 | 0 | 1)
 }
 
+// `topology` has this question too; slips stand on the sheet alone.
 fn is_in(place: u32, word: u32) -> bool
     requires { place < 32 }
     ensures { result ≡ is_in place word }
@@ -29,7 +31,7 @@ fn is_in(place: u32, word: u32) -> bool
     word >> place & 1 == 1
 }
 
-// +1 for a member, -1 for one against, else 0.
+// +1 for a member, -1 for one against, else 0: also where a place is against and no member, which `topology` takes as -1.
 fn entry_at(row: Shown, place: u32) -> i8
     requires { place < 32 }
     ensures { result ≡ entry_at row.members row.against place }

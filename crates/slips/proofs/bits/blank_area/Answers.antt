@@ -5,9 +5,6 @@ use Rattle.slips.proofs.Ending.{blanked_short, blanked_wide, blanked_past}
 use Rattle.slips.proofs.Putting.{zeroed_is}
 use Rattle.slips.proofs.bits.blank_area.Goals as goal
 
-after_blanking : (area area' : List ℕ) → area' ≡ blanked area → Past area area'
-after_blanking area area' e = subst (Past area) (sym e) (blanked_past area)
-
 pub returns-then-area-ge280 : goal.returns-then-area-ge280
 returns-then-area-ge280 c =
     let area = c.args.area.now in
@@ -17,9 +14,9 @@ returns-then-area-ge280 c =
     ∙ zeroed_is 280 area (omega arith)
     ∙ sym (blanked_wide area c.if-area-ge280.true)
     in
-    record { area = is; past = after_blanking area _ is }
+    record { area = is; past = blanked_past area is }
 
 pub returns-else-area-ge280 : goal.returns-else-area-ge280
 returns-else-area-ge280 c =
     let is = sym (blanked_short c.args.area.now c.if-area-ge280.false) in
-    record { area = is; past = after_blanking c.args.area.now _ is }
+    record { area = is; past = blanked_past c.args.area.now is }

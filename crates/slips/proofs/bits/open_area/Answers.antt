@@ -5,9 +5,6 @@ use Rattle.slips.proofs.Ending.{blanked_short, blanked_wide, opened_short, opene
 use Rattle.slips.proofs.Putting.{length-low, put_bits_first}
 use Rattle.slips.proofs.bits.open_area.Goals as goal
 
-after_opening : (tree : ℕ) (area area' : List ℕ) → area' ≡ opened tree area → Past area area'
-after_opening tree area area' e = subst (Past area) (sym e) (opened_past tree area)
-
 pub returns-in-Some : goal.returns-in-Some
 returns-in-Some c =
     let area = c.args.area.now in
@@ -19,10 +16,10 @@ returns-in-Some c =
     ∙ ap (λ (xs : List ℕ). put_bits xs 0 (low 32 c.args.tree)) (c.blank_area.ensures.area ∙ blanked_wide area (omega (arith, c.blank_area.auto.area)))
     ∙ sym (opened_wide c.args.tree area (omega (arith, c.blank_area.auto.area)))
     in
-    record { area = is; past = after_opening c.args.tree area _ is }
+    record { area = is; past = opened_past c.args.tree area is }
 
 pub returns-in_default : goal.returns-in_default
 returns-in_default c =
     let area = c.args.area.now in
     let is = c.blank_area.ensures.area ∙ blanked_short area (search rules) ∙ sym (opened_short c.args.tree area (search rules)) in
-    record { area = is; past = after_opening c.args.tree area _ is }
+    record { area = is; past = opened_past c.args.tree area is }
