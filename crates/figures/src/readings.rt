@@ -4,7 +4,7 @@ ghost use Rattle.std.specs.Float.{round_with, binary64};
 ghost use Rattle.sheet.specs.Refusals.{told};
 ghost use Rattle.figures.specs.Readings.{thousandths, nearest_whole, reading_of, Reads, reading_at};
 
-use sheet::{Plan, Refusal, Row};
+use sheet::{Plan, Refusal, Row, check_place};
 use std::num::saturating_f64_to_i32;
 
 // Readings stay below it either way.
@@ -33,14 +33,7 @@ pub fn reading_of(voltage: f64) -> Result<i32, Refusal>
 pub fn reading(plan: &Plan, rows: &[Row<f64>], number: u32) -> Result<i32, Refusal>
     ensures { told result ≡ reading_at plan.now rows.now number }
 {
-    if rows.len() != 32 {
-        return Err(Refusal::WrongLength);
-    }
-    if number > 31 {
-        return Err(Refusal::NoSuchPlace);
-    }
-    if plan.at(number).is_none() {
-        return Err(Refusal::PlaceEmpty);
-    }
+    check_place(rows.len(), number)?;
+    plan.at(number).ok_or(Refusal::PlaceEmpty)?;
     reading_of(rows[number as usize].voltage)
 }

@@ -1,7 +1,8 @@
 // Slips, readings and traces, run at the edges of their rules. The expected numbers are worked out by hand.
 #![tactic(auto)]
 
-use sheet::{Placement, Plan, Refusal, Row};
+use sheet::{Kind, Placement, Plan, Row};
+use sheet_tests::number_of;
 use slips::{SlipRow, SlipWriter, write_slip};
 
 #[cfg(test)]
@@ -9,14 +10,6 @@ mod tests;
 
 // What an area holds before a slip is written.
 pub const FILLED: u8 = 0xEE;
-
-// The refusal's number, or 0 if there is none.
-pub fn number_of<T: Drop>(answer: Result<T, Refusal>) -> u32 {
-    match answer {
-        Ok(_) => 0,
-        Err(refusal) => refusal.number(),
-    }
-}
 
 // A row with -1, +1 and +1 at places 0, 1 and 2.
 pub fn three_entries() -> [i8; 32] {
@@ -73,29 +66,20 @@ pub fn tree_alone(area: &mut [u8], tree: u32) -> Option<usize> {
     SlipWriter::open(area, tree).seal().ok()
 }
 
-pub fn zero_row() -> Row<f64> {
-    Row {
-        value: 0.0,
-        start: 0.0,
-        current: 0.0,
-        voltage: 0.0,
-    }
-}
-
 // A sheet with a resistor at place 3, whose voltage is that.
 pub fn sheet_with(rows: &mut [Row<f64>], voltage: f64) -> Plan {
     let mut plan = Plan::empty();
     let placement = Placement {
         number: 3,
-        kind: 1,
+        kind: Kind::Resistor.into(),
         tail: 1,
         head: 0,
         value: 2.0,
         start: 0.0,
     };
     let _ = plan.place::<f64>(rows, placement);
-    if rows.len() > 3 {
-        rows[3].voltage = voltage;
+    if let Some(row) = rows.get_mut(3) {
+        row.voltage = voltage;
     }
     plan
 }

@@ -1,9 +1,10 @@
 use crate::{
-    FILLED, all_are, number_of, number_rows, row_alone, sheet_with, three_entries, tree_alone,
-    two_rows, written, zero_row,
+    FILLED, all_are, number_rows, row_alone, sheet_with, three_entries, tree_alone, two_rows,
+    written,
 };
 use figures::{Trace, reading, reading_of};
-use sheet::Shown;
+use sheet::{Shown, fresh_rows};
+use sheet_tests::number_of;
 use slips::{SlipRow, entries_of, write_slip};
 
 // The tree of places 0 and 2, and row 1 with -1, +1 and +1.
@@ -133,7 +134,7 @@ fn readings(rt: HostRuntime) {
 // 63 at place 3, and the refusals in order.
 #[test]
 fn readings_of_a_sheet(rt: HostRuntime) {
-    let mut rows = [zero_row(); 32];
+    let mut rows = fresh_rows::<f64>();
     let plan = sheet_with(&mut rows, 0.0625);
     assert_eq!(rt; reading(&plan, &rows, 3).ok(), Some(63));
     assert_eq!(rt; number_of(reading(&plan, &rows, 4)), 4);
