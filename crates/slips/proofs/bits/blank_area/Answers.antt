@@ -1,6 +1,6 @@
-use Rattle.std.proofs.Common.{◌≡◌, ℕ, ◌++◌, List, drop, replicate, sym, ap, ◌∙◌, subst, arith, rules}
+use Rattle.std.proofs.Common.{◌≡◌, ℕ, ◌++◌, List, drop, replicate, sym, ap, ◌∙◌, arith, rules}
 use Rattle.std.proofs.lemmas.List.{length-take-le}
-use Rattle.slips.specs.Writing.{blanked, Past}
+use Rattle.slips.specs.Writing.{blanked}
 use Rattle.slips.proofs.Ending.{blanked_short, blanked_wide, blanked_past}
 use Rattle.slips.proofs.Putting.{zeroed_is}
 use Rattle.slips.proofs.bits.blank_area.Goals as goal

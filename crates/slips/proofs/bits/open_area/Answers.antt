@@ -1,6 +1,6 @@
-use Rattle.std.proofs.Common.{◌≡◌, ℕ, ◌≤◌, ◌++◌, List, length, drop, sym, ap, ◌∙◌, subst, arith, rules}
+use Rattle.std.proofs.Common.{◌≡◌, ℕ, ◌≤◌, ◌++◌, List, length, drop, sym, ap, ◌∙◌, arith, rules}
 use Rattle.slips.specs.Bits.{put_bits, low}
-use Rattle.slips.specs.Writing.{opened, Past}
+use Rattle.slips.specs.Writing.{opened}
 use Rattle.slips.proofs.Ending.{blanked_short, blanked_wide, opened_short, opened_wide, opened_past}
 use Rattle.slips.proofs.Putting.{length-low, put_bits_first}
 use Rattle.slips.proofs.bits.open_area.Goals as goal
