@@ -103,20 +103,19 @@ int_is (fin t m e) s n h l =
 split : (n : ℕ) → Dec (1_000_000_000 ≤ n)
 split n = dec_le 1_000_000_000 n
 
+without : (s : Bool) (n : ℕ) → lt (float_with_sign false (round binary64 s n 1)) billion ≡ false → out_of_range ≡ in_range s n
+without s n h = go (split n)
+  where
+    go : Dec (1_000_000_000 ≤ n) → out_of_range ≡ in_range s n
+    go (yes l) = ap (λ (b : Bool). refuse 18 b (granted (signed s n))) (sym (le-leb 1_000_000_000 n l))
+    go (no l) = absurd (true≢false (sym (near s n (omega arith)) ∙ h))
+
 pub reads_out : (x : Float) → lt (float_with_sign false (round_with nearest_whole nearest_whole binary64 x)) billion ≡ false → out_of_range ≡ reading_of x
 unfolding reading_of round_with
 reads_out nan h = refl
 reads_out (inf s) h = refl
-reads_out (fin false m e) h = go false (nearest_whole (m * up e) (down e)) h (split _)
-  where
-    go : (s : Bool) (n : ℕ) → lt (float_with_sign false (round binary64 s n 1)) billion ≡ false → Dec (1_000_000_000 ≤ n) → out_of_range ≡ in_range s n
-    go s n h (yes l) = ap (λ (b : Bool). refuse 18 b (granted (signed s n))) (sym (le-leb 1_000_000_000 n l))
-    go s n h (no l) = absurd (true≢false (sym (near s n (omega arith)) ∙ h))
-reads_out (fin true m e) h = go true (nearest_whole (m * up e) (down e)) h (split _)
-  where
-    go : (s : Bool) (n : ℕ) → lt (float_with_sign false (round binary64 s n 1)) billion ≡ false → Dec (1_000_000_000 ≤ n) → out_of_range ≡ in_range s n
-    go s n h (yes l) = ap (λ (b : Bool). refuse 18 b (granted (signed s n))) (sym (le-leb 1_000_000_000 n l))
-    go s n h (no l) = absurd (true≢false (sym (near s n (omega arith)) ∙ h))
+reads_out (fin false m e) h = without false (nearest_whole (m * up e) (down e)) h
+reads_out (fin true m e) h = without true (nearest_whole (m * up e) (down e)) h
 
 within : (s : Bool) (n : ℕ) → lt (float_with_sign false (round binary64 s n 1)) billion ≡ true → granted (to_signed 31 (round binary64 s n 1)) ≡ in_range s n
 within s n h = go (split n)
