@@ -23,12 +23,12 @@ use Rattle.slips.specs.Slips.{Slip, row_bits, rows_bits, slip_bits}
 use Rattle.slips.specs.Writing.{blanked, rows_answer, slip_answer, ReadsBack}
 use Rattle.plan_slips.specs.Own.{own_rows, OwnSlip}
 use Rattle.linear.specs.Loops.{steps, down, first, tries}
-use Rattle.tree_stories.specs.Networks.{kind_at, any}
-use Rattle.tree_stories.specs.Assembly.{through, entry_of, fed, levelled, right_of, blank_area, with_companions, with_row, assembled}
-use Rattle.tree_stories.specs.Steps.{row_at, parts_of, solving, voltage_of, flow_of, current_of, renewed_rows, unsound, stepped}
-use Rattle.tree_stories.specs.Stories.{run, blank_sheet}
-use Rattle.tree_stories.proofs.Granting.{never, chain}
-use Rattle.tree_stories.proofs.Networks.{any_none}
+use Rattle.stories.specs.Networks.{kind_at, any}
+use Rattle.stories.specs.Assembly.{through, entry_of, fed, levelled, right_of, blank_area, with_companions, with_row, assembled}
+use Rattle.stories.specs.Steps.{row_at, parts_of, solving, voltage_of, flow_of, current_of, renewed_rows, unsound, stepped}
+use Rattle.stories.specs.Stories.{run, blank_sheet}
+use Rattle.stories.proofs.Granting.{never, chain}
+use Rattle.stories.proofs.Networks.{any_none}
 use Rattle.figures.specs.Readings.{reading_of}
 use Rattle.known_results.specs.Table.{placing, circuit, SlipIs, figures, low_pass, two_voltages, two_currents, opposed, bridge, KnownResults}
 

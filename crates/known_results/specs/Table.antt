@@ -29,8 +29,8 @@ use Rattle.sheet.specs.Kinds.{mark}
 use Rattle.sheet.specs.Refusals.{Answer, granted, refused, told, after}
 use Rattle.topology.specs.Trees.{tree_of, loop_row_of, cut_row_of}
 use Rattle.plan_slips.specs.Own.{OwnSlip}
-use Rattle.tree_stories.specs.Steps.{row_at, stepped}
-use Rattle.tree_stories.specs.Stories.{StoryCall, on_sheet, run, blank_sheet}
+use Rattle.stories.specs.Steps.{row_at, stepped}
+use Rattle.stories.specs.Stories.{StoryCall, on_sheet, run, blank_sheet}
 use Rattle.figures.specs.Readings.{thousandths, reading_of}
 
 infix 50 ◌⊖◌

@@ -6,8 +6,6 @@ ghost use Rattle.known_results.specs.Table.{KnownResults};
 use arithmetic::Arithmetic;
 
 // The definitions that the contracts cite give every known answer.
-pub fn known_results_stand<N: Arithmetic>() -> u8
+pub fn known_results_stand<N: Arithmetic>()
     ensures { KnownResults N.ops }
-{
-    0
-}
+{}

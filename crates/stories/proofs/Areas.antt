@@ -86,7 +86,7 @@ module _ {M : Type 0} (o : Ops M) (c : Parts M) (few : size c ≤ 15) where
 
   start_long : length (with_companions o c (blank_area o)) ≡ 304
   unfolding with_companions blank_area
-  start_long = turns_long c.passive (λ k w. set (set w k (c.conductance k)) (32 + k) (c.feed k)) (λ k w. length-set _ _ _ ∙ length-set _ _ _) 32 _ ∙ length-replicate 304 o.nought
+  start_long = turns_long c.feeding (λ k w. set (set w k (c.conductance k)) (32 + k) (c.feed k)) (λ k w. length-set _ _ _ ∙ length-set _ _ _) 32 _ ∙ length-replicate 304 o.nought
 
   pub assembled_long : length (assembled o c) ≡ 304
   unfolding assembled
@@ -108,9 +108,27 @@ module _ {M : Type 0} (o : Ops M) (c : Parts M) (few : size c ≤ 15) where
       (λ k w lt lk mk. let z = count-lt c.unknown t k mt lt in row_other k (count c.unknown t) (size c) w (omega arith) few)
       (with_companions o c (blank_area o)) start_long
 
--- the places below the system: conductance and feed of each passive branch stay there, also while the system is solved
+-- the places below the system: conductance and feed of each feeding branch stay there, also while the system is solved
 module _ {M : Type 0} (o : Ops M) (c : Parts M) where
-  row_below : (t k : ℕ) (w : List M) → k < 64 → get_or (with_row o c t w) k o.nought ≡ get_or w k o.nought
+  pub companions_conductance : (k : ℕ) → k < 32 → k ∈ c.feeding → get_or (with_companions o c (blank_area o)) k o.nought ≡ c.conductance k
+  unfolding with_companions blank_area
+  companions_conductance k h m =
+      turns_own c.feeding (λ k w. set (set w k (c.conductance k)) (32 + k) (c.feed k)) (λ w. get_or w k o.nought) (c.conductance k) 304 k 32 h m
+      (λ k w. length-set _ _ _ ∙ length-set _ _ _)
+      (λ w s. get_or-set_other _ (32 + k) k _ o.nought (omega arith) ∙ get_or-set_same w k _ o.nought (omega arith))
+      (λ j w lt lj mj. get_or-set_other _ (32 + j) k _ o.nought (omega arith) ∙ get_or-set_other w j k _ o.nought (omega arith))
+      (blank_area o) (length-replicate 304 o.nought)
+
+  pub companions_feed : (k : ℕ) → k < 32 → k ∈ c.feeding → get_or (with_companions o c (blank_area o)) (32 + k) o.nought ≡ c.feed k
+  unfolding with_companions blank_area
+  companions_feed k h m =
+      turns_own c.feeding (λ k w. set (set w k (c.conductance k)) (32 + k) (c.feed k)) (λ w. get_or w (32 + k) o.nought) (c.feed k) 304 k 32 h m
+      (λ k w. length-set _ _ _ ∙ length-set _ _ _)
+      (λ w s. let long = length-set w k (c.conductance k) in get_or-set_same _ (32 + k) _ o.nought (omega arith))
+      (λ j w lt lj mj. get_or-set_other _ (32 + j) (32 + k) _ o.nought (omega arith) ∙ get_or-set_other w j (32 + k) _ o.nought (omega arith))
+      (blank_area o) (length-replicate 304 o.nought)
+
+  pub row_below : (t k : ℕ) (w : List M) → k < 64 → get_or (with_row o c t w) k o.nought ≡ get_or w k o.nought
   unfolding with_row
   row_below t k w h =
       get_or-set_other _ (cell (count c.unknown t) (size c)) k _ o.nought (omega arith)
@@ -121,29 +139,21 @@ module _ {M : Type 0} (o : Ops M) (c : Parts M) where
   unfolding assembled
   assembled-below k h = turns_keep c.unknown (with_row o c) (λ w. get_or w k o.nought) 32 (λ t w l m. row_below t k w h) (with_companions o c (blank_area o))
 
-  pub assembled-conductance : (k : ℕ) → k < 32 → k ∈ c.passive → get_or (assembled o c) k o.nought ≡ c.conductance k
-  unfolding with_companions blank_area
-  assembled-conductance k h m =
-      assembled-below k (omega arith)
-      ∙ turns_own c.passive (λ k w. set (set w k (c.conductance k)) (32 + k) (c.feed k)) (λ w. get_or w k o.nought) (c.conductance k) 304 k 32 h m
-      (λ k w. length-set _ _ _ ∙ length-set _ _ _)
-      (λ w s. get_or-set_other _ (32 + k) k _ o.nought (omega arith) ∙ get_or-set_same w k _ o.nought (omega arith))
-      (λ j w lt lj mj. get_or-set_other _ (32 + j) k _ o.nought (omega arith) ∙ get_or-set_other w j k _ o.nought (omega arith))
-      (blank_area o) (length-replicate 304 o.nought)
+  pub assembled-conductance : (k : ℕ) → k < 32 → k ∈ c.feeding → get_or (assembled o c) k o.nought ≡ c.conductance k
+  assembled-conductance k h m = assembled-below k (omega arith) ∙ companions_conductance k h m
 
-  pub assembled-feed : (k : ℕ) → k < 32 → k ∈ c.passive → get_or (assembled o c) (32 + k) o.nought ≡ c.feed k
-  unfolding with_companions blank_area
-  assembled-feed k h m =
-      assembled-below (32 + k) (omega arith)
-      ∙ turns_own c.passive (λ k w. set (set w k (c.conductance k)) (32 + k) (c.feed k)) (λ w. get_or w (32 + k) o.nought) (c.feed k) 304 k 32 h m
-      (λ k w. length-set _ _ _ ∙ length-set _ _ _)
-      (λ w s. let long = length-set w k (c.conductance k) in get_or-set_same _ (32 + k) _ o.nought (omega arith))
-      (λ j w lt lj mj. get_or-set_other _ (32 + j) (32 + k) _ o.nought (omega arith) ∙ get_or-set_other w j (32 + k) _ o.nought (omega arith))
-      (blank_area o) (length-replicate 304 o.nought)
+  pub assembled-feed : (k : ℕ) → k < 32 → k ∈ c.feeding → get_or (assembled o c) (32 + k) o.nought ≡ c.feed k
+  assembled-feed k h m = assembled-below (32 + k) (omega arith) ∙ companions_feed k h m
 
   pub solving-below : (k : ℕ) → k < 64 → get_or (solving o c).left k o.nought ≡ get_or (assembled o c) k o.nought
   unfolding solving
   solving-below k h = (inside o).writes (size c) (assembled o c) k (λ r d hr hd. omega arith)
+
+  pub solving-conductance : (k : ℕ) → k < 32 → k ∈ c.feeding → get_or (solving o c).left k o.nought ≡ c.conductance k
+  solving-conductance k h m = solving-below k (omega arith) ∙ assembled-conductance k h m
+
+  pub solving-feed : (k : ℕ) → k < 32 → k ∈ c.feeding → get_or (solving o c).left (32 + k) o.nought ≡ c.feed k
+  solving-feed k h m = solving-below (32 + k) (omega arith) ∙ assembled-feed k h m
 
 -- a list with y t at the place of each member t
 unfoldable pub list_of : {M : Type 0} → Ops M → Set → (ℕ → M) → List M

@@ -9,9 +9,10 @@ use Rattle.graphs.proofs.Joint.{theory}
 use Rattle.linear.specs.Systems.{sum}
 use Rattle.linear.proofs.Ring.{ring}
 use Rattle.linear.proofs.Sums.{sum_only}
-use Rattle.stories.specs.Networks.{graph_of, placed}
+use Rattle.topology.specs.Networks.{graph_of, placed}
+use Rattle.topology.proofs.Networks.{placed_below}
+use Rattle.topology.proofs.Theory.{ends_placed}
 use Rattle.stories.specs.Laws.{leaving}
-use Rattle.stories.proofs.Networks.{placed_below, placed_ends}
 use Rattle.stories.proofs.Terms.{weight, sign, weight_in, weight_out, sign_plus, sign-none, additive, over-sum, signed-sum}
 
 -- the cut row of t at k, as a number
@@ -23,7 +24,7 @@ module _ {M : Type 0} {o : Ops M} (laws : Exact o) (p : Plan) (T : Set) (tree : 
   tree_below k m = placed_below p k (tree.placed k m)
 
   balances : Balances (additive laws) (graph_of p) (placed p) T 32 16
-  balances = (theory M).balances (additive laws) (graph_of p) (placed p) T 32 16 (placed_below p) (placed_ends p) tree
+  balances = (theory M).balances (additive laws) (graph_of p) (placed p) T 32 16 (placed_below p) (ends_placed p) tree
 
   pub rows : Rows (graph_of p) T 32
   rows = (theory M).rows (graph_of p) T 32 tree_below tree.free

@@ -8,9 +8,9 @@ use Rattle.linear.specs.Systems.{sum}
 use Rattle.linear.proofs.Ring.{ring}
 use Rattle.stories.proofs.Terms.{weight}
 
-pub count_step : (S : Set) (m : ℕ) → count S m ≤ count S (suc m)
+pub count-step : (S : Set) (m : ℕ) → count S m ≤ count S (suc m)
 unfolding count
-count_step S m = go (S m)
+count-step S m = go (S m)
   where
     go : (b : Bool) → count S m ≤ cond b (suc (count S m)) (count S m)
     go true = omega arith
@@ -20,7 +20,7 @@ pub count_mono : (S : Set) (a b : ℕ) → a ≤ b → count S a ≤ count S b
 count_mono S a zero h = subst (λ n. count S n ≤ count S 0) (let e : 0 ≡ a = omega arith in e) (omega arith)
 count_mono S a (suc b) h = elim (cases_eq a (suc b)) [
   | inl e ↦ subst (λ n. count S a ≤ count S n) e (omega arith)
-  | inr d ↦ let l = count_mono S a b (omega arith) in let r = count_step S b in omega arith
+  | inr d ↦ let l = count_mono S a b (omega arith) in let r = count-step S b in omega arith
 ]
 
 -- a member's place is before the places of the members above it

@@ -1,6 +1,6 @@
 -- Dead lists: all zeros; a current of one around a loop of voltage sources; a potential of one on one side of a cut of current sources. Assumes nothing.
-use Rattle.std.proofs.Common.{◌≡◌, ℕ, ◌<◌, ◌≤◌, Bool, true, false, cond, not, eqb, Some, None, Option, sym, refl, ap, ◌∙◌, subst, ap₂, arith}
-use Rattle.std.proofs.lemmas.Bool.{both_ways, and_parts, and_from, not-true, cond-true, cond-false, eq-eqb, ne_eqb}
+use Rattle.std.proofs.Common.{◌≡◌, ℕ, ◌<◌, ◌≤◌, Bool, true, false, cond, eqb, Some, None, Option, sym, refl, ap, ◌∙◌, subst, ap₂, arith}
+use Rattle.std.proofs.lemmas.Bool.{both_ways, and_from, cond-true, cond-false, eq-eqb, ne_eqb}
 use Rattle.arithmetic.specs.Ops.{Ops, Exact}
 use Rattle.sheet.specs.declared.kind.Kind.{Kind}
 use Rattle.sheet.specs.declared.kind.Kind.TheVariants.{Resistor, Inductor, Capacitor, VoltageSource, CurrentSource}
@@ -12,16 +12,20 @@ use Rattle.graphs.specs.Greedy.{up_to, reached, LateCut}
 use Rattle.graphs.specs.Groups.{times}
 use Rattle.graphs.proofs.Joint.{theory}
 use Rattle.graphs.proofs.Sets.{out}
-use Rattle.graphs.proofs.Classes.{up_to_less, up_to_class}
+use Rattle.graphs.proofs.Classes.{up_to_less, up_to_class, up_to_in}
 use Rattle.graphs.proofs.Trails.{free_less}
 use Rattle.graphs.proofs.Walks.{back}
 use Rattle.linear.specs.Systems.{sum}
 use Rattle.linear.proofs.Ring.{ring}
 use Rattle.linear.proofs.Sums.{sum_same, sum_zero}
-use Rattle.stories.specs.Networks.{kind_class, graph_of, placed, class_at, kind_at, is_voltage, is_current, tree_set, loose, late}
+use Rattle.topology.specs.Networks.{kind_class, graph_of, placed, class_at}
+use Rattle.topology.specs.Trees.{tree_set, loose, late}
+use Rattle.topology.proofs.Networks.{placed_below}
+use Rattle.topology.proofs.Theory.{best, is_tree}
+use Rattle.stories.specs.Networks.{kind_at, is_voltage, is_current}
 use Rattle.stories.specs.Laws.{signed, leaving, Law, stilled, Dead, AllZero}
-use Rattle.stories.proofs.Networks.{placed_below, kind_placed, kind_class_lem, the_kind, best, kept_tree}
-use Rattle.stories.proofs.Trees.{voltage_is, current_is, class_voltage}
+use Rattle.stories.proofs.Networks.{kind_placed, kind_class_lem, the_kind, voltages_are}
+use Rattle.stories.proofs.Trees.{voltage_is, loose_source, late_source}
 use Rattle.stories.proofs.Terms.{weight, sign, weight_in, weight_out, additive, group_sum, signed_mul, times-mul}
 
 module _ {M : Type 0} {o : Ops M} (laws : Exact o) where
@@ -66,17 +70,13 @@ module _ {M : Type 0} {o : Ops M} (laws : Exact o) where
     -- refusal 12
     module _ (k : ℕ) (met : k ∈ loose p) where
       source : kind_at p k ≡ Some VoltageSource
-      source = voltage_is (kind_at p k) (and_parts (is_voltage (kind_at p k)) (not (tree_set p k)) met).0
+      source = (loose_source p k met).0
 
       dropped : tree_set p k ≡ false
-      dropped = not-true (tree_set p k) (and_parts (is_voltage (kind_at p k)) (not (tree_set p k)) met).1
+      dropped = (loose_source p k met).1
 
       kept_voltage : (j : ℕ) → j ∈ up_to (class_at p) 0 (tree_set p) → is_voltage (kind_at p j) ≡ true
-      kept_voltage j m =
-          let f = the_kind p j ((kept_tree p).placed j (up_to_less (class_at p) 0 (tree_set p) j m)) in
-          let low = up_to_class (class_at p) 0 (tree_set p) j m in
-          let same = kind_class_lem p j f.0 f.1 in
-          ap is_voltage f.1 ∙ class_voltage f.0 (omega arith)
+      kept_voltage j m = sym (voltages_are p j) ∙ up_to_in (class_at p) 0 (placed p) j ((is_tree p).placed j (up_to_less (class_at p) 0 (tree_set p) j m)) (up_to_class (class_at p) 0 (tree_set p) j m)
 
       closes : LoopAlong (graph_of p) (up_to (class_at p) (class_at p k) (tree_set p)) k
       unfolding tree_set
@@ -106,8 +106,8 @@ module _ {M : Type 0} {o : Ops M} (laws : Exact o) where
       around x =
           sym (group_sum laws _ 32)
           ∙ ((theory M).laws (additive laws) (graph_of p) (up_to (class_at p) 0 (tree_set p)) 32 16
-          (λ j m. placed_below p j ((kept_tree p).placed j (up_to_less (class_at p) 0 (tree_set p) j m)))
-          (free_less (graph_of p) (up_to (class_at p) 0 (tree_set p)) (tree_set p) (up_to_less (class_at p) 0 (tree_set p)) (kept_tree p).free)
+          (λ j m. placed_below p j ((is_tree p).placed j (up_to_less (class_at p) 0 (tree_set p) j m)))
+          (free_less (graph_of p) (up_to (class_at p) 0 (tree_set p)) (tree_set p) (up_to_less (class_at p) 0 (tree_set p)) (is_tree p).free)
           ).loop_incidence o.one x k (placed_below p k (kind_placed p k VoltageSource source)) loop_dropped spans
 
       turn_round : (s r : Sign) → signed o s (signed o r o.one) ≡ times (additive laws) r (times (additive laws) s o.one)
@@ -142,11 +142,11 @@ module _ {M : Type 0} {o : Ops M} (laws : Exact o) where
     -- refusal 13
     module _ (k : ℕ) (met : k ∈ late p) where
       drives : kind_at p k ≡ Some CurrentSource
-      drives = current_is (kind_at p k) (and_parts (is_current (kind_at p k)) (tree_set p k) met).0
+      drives = (late_source p k met).0
 
       shown : LateCut (graph_of p) (class_at p) 3 (placed p) 32 k
       unfolding tree_set
-      shown = (best p).late 3 k (and_parts (is_current (kind_at p k)) (tree_set p k) met).1 (subst (λ c. 3 < c) (sym (kind_class_lem p k CurrentSource drives)) (omega arith))
+      shown = (best p).late 3 k (late_source p k met).1 (subst (λ c. 3 < c) (sym (kind_class_lem p k CurrentSource drives)) (omega arith))
 
       abbrev N : Set
       N = reached (graph_of p) (class_at p) 3 (placed p) 32 k

@@ -11,7 +11,8 @@ use Rattle.graphs.specs.Cuts.{turned}
 use Rattle.linear.specs.Systems.{sum}
 use Rattle.linear.proofs.Ring.{ring, zero-add}
 use Rattle.linear.proofs.Sums.{sum_same, sum-add}
-use Rattle.stories.specs.Networks.{graph_of, placed, kind_at, is_voltage, is_passive}
+use Rattle.topology.specs.Networks.{graph_of, placed}
+use Rattle.stories.specs.Networks.{kind_at, is_voltage, is_passive}
 use Rattle.stories.specs.Companions.{conductance, feed}
 use Rattle.stories.specs.Assembly.{through, taken, entry_of, right_of}
 use Rattle.stories.specs.Steps.{parts_of, tree_voltage, voltage_of, flow_of, current_of}

@@ -1,20 +1,20 @@
--- The graph of a plan: what a place says of it, and the tree that is kept. Assumes nothing.
+-- The kinds of the branches of a plan, and how many a tree of it has. Assumes nothing.
 use Rattle.std.proofs.Common.{◌≡◌, ℕ, zero, suc, ◌<◌, ◌≤◌, Bool, true, false, cond, not, ◌&&◌, ◌||◌, ltb, leb, is_some, Some, None, Option, sym, refl, ap, ◌∙◌, subst, inl, inr, arith}
-use Rattle.std.proofs.lemmas.Bool.{ltb-true, and_parts, cases_eq, or_parts, both_ways, eq-eqb}
+use Rattle.std.proofs.lemmas.Bool.{cases_eq, or_parts, both_ways, eq-eqb}
 use Rattle.sheet.specs.declared.branch.Branch.{Branch}
 use Rattle.sheet.specs.declared.kind.Kind.{Kind}
 use Rattle.sheet.specs.declared.kind.Kind.TheVariants.{Resistor, Inductor, Capacitor, VoltageSource, CurrentSource}
 use Rattle.sheet.specs.declared.plan.Plan.{Plan}
 use Rattle.sheet.specs.Plans.{branch_at}
-use Rattle.graphs.specs.Graph.{Graph, Set, ◌∈◌, count, Below, Ends, Tree}
+use Rattle.graphs.specs.Graph.{Graph, Set, ◌∈◌, count, Tree}
 use Rattle.graphs.specs.Greedy.{up_to}
-use Rattle.graphs.specs.Joint
-use Rattle.graphs.specs.Joint.{Listing}
 use Rattle.graphs.specs.Labels.{label, own, components}
 use Rattle.graphs.proofs.Joint.{theory}
 use Rattle.graphs.proofs.Labels.{label-le}
 use Rattle.graphs.proofs.Sets.{count-without}
-use Rattle.stories.specs.Networks.{kind_class, tail_of, head_of, class_found, kind_found, graph_of, placed, class_at, kind_at, is_voltage, is_current, order, tree_set, any}
+use Rattle.topology.specs.Networks.{kind_class, class_found, graph_of, placed, class_at}
+use Rattle.topology.proofs.Theory.{ends_placed}
+use Rattle.stories.specs.Networks.{kind_found, kind_at, is_voltage, is_current, any}
 
 -- some or none
 pub any_some : (S : Set) (n : ℕ) → any S n ≡ true → (k : ℕ) × ((k < n) × (k ∈ S))
@@ -51,13 +51,6 @@ placed_kind p k = go (ltb k 32) (branch_at p k)
 pub kind_placed : (p : Plan) (k : ℕ) (x : Kind) → kind_at p k ≡ Some x → k ∈ placed p
 kind_placed p k x e = placed_kind p k ∙ ap is_some e
 
-pub placed_below : (p : Plan) → Below 32 (placed p)
-unfolding placed
-placed_below p k m = ltb-true k 32 (and_parts (ltb k 32) (is_some (branch_at p k)) m).0
-
-pub kind_below : (p : Plan) (k : ℕ) (x : Kind) → kind_at p k ≡ Some x → k < 32
-kind_below p k x e = placed_below p k (kind_placed p k x e)
-
 pub kind_class_lem : (p : Plan) (k : ℕ) (x : Kind) → kind_at p k ≡ Some x → class_at p k ≡ kind_class x
 unfolding kind_at class_at
 kind_class_lem p k x e = go (ltb k 32) (branch_at p k) e
@@ -77,16 +70,6 @@ the_kind p k m = go (kind_at p k) refl
     go : (f : Option Kind) → kind_at p k ≡ f → (x : Kind) × (kind_at p k ≡ Some x)
     go None e = absurd (both_ways (placed p k) (placed_kind p k ∙ ap is_some e) m)
     go (Some x) e = (x, e)
-
-pub class_below : (p : Plan) (k : ℕ) → k ∈ placed p → class_at p k ≤ 4
-class_below p k m = let f = the_kind p k m in subst (λ c. c ≤ 4) (sym (kind_class_lem p k f.0 f.1)) (go f.0)
-  where
-    go : (x : Kind) → kind_class x ≤ 4
-    go Resistor = omega arith
-    go Inductor = omega arith
-    go Capacitor = omega arith
-    go VoltageSource = omega arith
-    go CurrentSource = omega arith
 
 -- the voltage sources are the placed branches of class 0, the others but current sources those of class 3 at most
 pub voltages_are : (p : Plan) (k : ℕ) → up_to (class_at p) 0 (placed p) k ≡ is_voltage (kind_at p k)
@@ -121,28 +104,6 @@ resting_are p k = go (ltb k 32) (branch_at p k)
     go true (Some x) = kinds x.kind
     go false f = refl
 
-node_tail : (o : Option Branch) → tail_of o < 16
-node_tail None = omega arith
-node_tail (Some b) = b.ends.tail_within
-
-node_head : (o : Option Branch) → head_of o < 16
-node_head None = omega arith
-node_head (Some b) = b.ends.head_within
-
-pub placed_ends : (p : Plan) → Ends 16 (graph_of p) (placed p)
-unfolding graph_of
-placed_ends p k m = (node_tail (branch_at p k), node_head (branch_at p k))
-
-pub listing : (p : Plan) → Listing (graph_of p) 32 16 (placed p) (class_at p) (order p)
-listing p = (theory ℕ).listing (graph_of p) 32 16 5 (placed p) (class_at p) (placed_below p) (placed_ends p) (λ k m. let h = class_below p k m in omega arith)
-
-pub best : (p : Plan) → Joint.BestTree (graph_of p) 32 (placed p) (class_at p) (order p)
-best p = (theory ℕ).best (graph_of p) 32 16 (placed p) (class_at p) (order p) (listing p)
-
-pub kept_tree : (p : Plan) → Tree (graph_of p) (placed p) (tree_set p)
-unfolding tree_set
-kept_tree p = (best p).tree
-
 -- node 0 is its own label
 parts_some : (g : Graph) (S : Set) → 1 ≤ components g S 32 16
 parts_some g S =
@@ -153,6 +114,6 @@ parts_some g S =
 -- at most 15 branches are kept
 pub kept_few : (p : Plan) (S : Set) → Tree (graph_of p) (placed p) S → count S 32 ≤ 15
 kept_few p S t =
-    let all = ((theory ℕ).counting (graph_of p) S 32 16).forest t.free (λ k m. placed_ends p k (t.placed k m)) in
+    let all = ((theory ℕ).counting (graph_of p) S 32 16).forest t.free (λ k m. ends_placed p k (t.placed k m)) in
     let one = parts_some (graph_of p) S in
     omega arith

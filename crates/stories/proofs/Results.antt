@@ -6,9 +6,10 @@ use Rattle.sheet.specs.declared.plan.Plan.{Plan}
 use Rattle.sheet.specs.declared.row.Row.{Row}
 use Rattle.sheet.specs.Calls.{zero_row}
 use Rattle.graphs.specs.Graph.{◌∈◌}
-use Rattle.stories.specs.Networks.{placed}
-use Rattle.stories.specs.Steps.{numbers, row_at, Result, renewed, renewed_rows}
-use Rattle.stories.proofs.Networks.{placed_below}
+use Rattle.topology.specs.Networks.{placed}
+use Rattle.topology.proofs.Networks.{placed_below}
+use Rattle.sheet.specs.Meanings.{meanings}
+use Rattle.stories.specs.Steps.{row_at, Result, renewed, renewed_rows}
 use Rattle.stories.proofs.Areas.{turns_long, turns_keep, turns_own}
 
 module _ {M : Type 0} (o : Ops M) (p : Plan) (rows : List (Row M)) (long : length rows ≡ 32) (f : Result M) where
@@ -20,7 +21,7 @@ module _ {M : Type 0} (o : Ops M) (p : Plan) (rows : List (Row M)) (long : lengt
   unfolding renewed_rows row_at
   renewed-placed k m =
       let low = placed_below p k m in
-      turns_own (placed p) (λ k rs. set rs k (renewed (row_at o rows k) (f.current k) (f.voltage k))) (λ rs. get_or rs k (zero_row (numbers o))) (renewed (row_at o rows k) (f.current k) (f.voltage k)) 32 k 32 low m
+      turns_own (placed p) (λ k rs. set rs k (renewed (row_at o rows k) (f.current k) (f.voltage k))) (λ rs. get_or rs k (zero_row (meanings o))) (renewed (row_at o rows k) (f.current k) (f.voltage k)) 32 k 32 low m
       (λ k rs. length-set _ _ _)
       (λ rs s. get_or-set_same rs k _ _ (omega arith))
       (λ j rs lt lj mj. get_or-set_other rs j k _ _ (omega arith))
@@ -29,7 +30,7 @@ module _ {M : Type 0} (o : Ops M) (p : Plan) (rows : List (Row M)) (long : lengt
   pub renewed-empty : (k : ℕ) → placed p k ≡ false → row_at o (renewed_rows o p rows f) k ≡ row_at o rows k
   unfolding renewed_rows row_at
   renewed-empty k e =
-      turns_keep (placed p) (λ k rs. set rs k (renewed (row_at o rows k) (f.current k) (f.voltage k))) (λ rs. get_or rs k (zero_row (numbers o))) 32
+      turns_keep (placed p) (λ k rs. set rs k (renewed (row_at o rows k) (f.current k) (f.voltage k))) (λ rs. get_or rs k (zero_row (meanings o))) 32
       (λ j rs lj mj. get_or-set_other rs j k _ _ (λ d. both_ways (placed p k) e (ap (placed p) d ∙ mj))) rows
 
   pub renewed-value : (k : ℕ) → (row_at o (renewed_rows o p rows f) k).value ≡ (row_at o rows k).value

@@ -7,14 +7,18 @@ use Rattle.sheet.specs.declared.branch.Branch.{Branch}
 use Rattle.sheet.specs.declared.kind.Kind.{Kind}
 use Rattle.sheet.specs.declared.kind.Kind.TheVariants.{Resistor, Inductor, Capacitor, VoltageSource, CurrentSource}
 use Rattle.sheet.specs.declared.placement.Placement.{Placement}
+use Rattle.sheet.specs.declared.plan.Plan.{Plan}
 use Rattle.sheet.specs.declared.row.Row.{Row}
 use Rattle.sheet.specs.Calls.{Sheet, blank, place, lift, set_value, zero_row, takes_value, first_row, left}
 use Rattle.sheet.specs.Kinds.{is_source}
 use Rattle.sheet.specs.Plans.{empty_plan, with_branch}
 use Rattle.sheet.specs.Refusals.{Answer, granted, refused}
+use Rattle.sheet.specs.Meanings.{meanings}
+use Rattle.topology.specs.Trees.{tree_of}
 use Rattle.stories.specs.Networks.{kind_at, is_passive}
-use Rattle.stories.specs.Steps.{numbers, row_at, Showing, renewed_rows, step_result}
-use Rattle.stories.specs.Stories.{StoryCall, on_sheet, step, answer, run}
+use Rattle.stories.specs.Steps.{row_at, renewed_rows, TreeCall, step_result}
+use Rattle.stories.specs.Stories.{StoryCall, on_sheet, step, answer_by, run_by, run}
+use Rattle.stories.proofs.Trees.{Answers, by_the_call}
 use Rattle.stories.proofs.Granting.{divides, step_went}
 use Rattle.stories.proofs.Calls.{Placing, Setting, blank_went, placed_went, lifted_went, set_went, kind_with_same, kind_with_other, kind_empty, kind_there}
 use Rattle.stories.proofs.Results.{renewed_long, renewed-value}
@@ -32,14 +36,14 @@ pub record Kept {M : Type 0} (o : Ops M) (s : Sheet M) : Type 0 where
   pub table : length s.rows ≡ 32
   pub values : (k : ℕ) → is_passive (kind_at s.plan k) ≡ true → (row_at o s.rows k).value ≡ o.nought → ⊥
 
-passive_takes : {M : Type 0} (o : Ops M) (x : Kind) (v : M) → is_passive (Some x) ≡ true → takes_value (numbers o) x v ≡ true → may_divide o v ≡ true
+passive_takes : {M : Type 0} (o : Ops M) (x : Kind) (v : M) → is_passive (Some x) ≡ true → takes_value (meanings o) x v ≡ true → may_divide o v ≡ true
 passive_takes o Resistor v e t = (and_parts (o.is_sound v) (may_divide o v) t).1
 passive_takes o Inductor v e t = (and_parts (o.is_sound v) (may_divide o v) t).1
 passive_takes o Capacitor v e t = (and_parts (o.is_sound v) (may_divide o v) t).1
 passive_takes o VoltageSource v e t = absurd (both_ways false refl e)
 passive_takes o CurrentSource v e t = absurd (both_ways false refl e)
 
-first-value : {M : Type 0} (o : Ops M) (x : Kind) (v s : M) → (first_row (numbers o) x v s).value ≡ v
+first-value : {M : Type 0} (o : Ops M) (x : Kind) (v s : M) → (first_row (meanings o) x v s).value ≡ v
 first-value o Resistor v s = refl
 first-value o Inductor v s = refl
 first-value o Capacitor v s = refl
@@ -53,16 +57,16 @@ source_passive Capacitor e = absurd (both_ways false refl e)
 source_passive VoltageSource e = refl
 source_passive CurrentSource e = refl
 
-pub blank_kept : {M : Type 0} (o : Ops M) → Kept o (record { plan = empty_plan; rows = replicate 32 (zero_row (numbers o)) })
+pub blank_kept : {M : Type 0} (o : Ops M) → Kept o (record { plan = empty_plan; rows = replicate 32 (zero_row (meanings o)) })
 blank_kept o = record {
   places = length-replicate {A = Option Branch} 32 None;
-  table = length-replicate 32 (zero_row (numbers o));
+  table = length-replicate 32 (zero_row (meanings o));
   values = λ k e z. both_ways (is_passive (kind_at empty_plan k)) (ap is_passive (kind_empty k)) e;
 }
 
 module _ {M : Type 0} {o : Ops M} (laws : Exact o) where
   module _ (s : Sheet M) (kept : Kept o s) where
-    place_kept : (p : Placement M) (t : Sheet M) → Placing (numbers o) p s t → Kept o t
+    place_kept : (p : Placement M) (t : Sheet M) → Placing (meanings o) p s t → Kept o t
     place_kept p t c = subst (Kept o) (sym c.is) (record {
       places = length-set _ _ _ ∙ kept.places;
       table = length-set _ _ _ ∙ kept.table;
@@ -74,7 +78,7 @@ module _ {M : Type 0} {o : Ops M} (laws : Exact o) where
       ];
     })
 
-    lift_kept : (j : ℕ) (t : Sheet M) → (j < 32) × (t ≡ record { plan = with_branch s.plan j None; rows = set s.rows j (zero_row (numbers o)) }) → Kept o t
+    lift_kept : (j : ℕ) (t : Sheet M) → (j < 32) × (t ≡ record { plan = with_branch s.plan j None; rows = set s.rows j (zero_row (meanings o)) }) → Kept o t
     lift_kept j t c = subst (Kept o) (sym c.1) (record {
       places = length-set _ _ _ ∙ kept.places;
       table = length-set _ _ _ ∙ kept.table;
@@ -84,7 +88,7 @@ module _ {M : Type 0} {o : Ops M} (laws : Exact o) where
       ];
     })
 
-    set-kept : (j : ℕ) (v : M) (t : Sheet M) → Setting (numbers o) j v s t → Kept o t
+    set-kept : (j : ℕ) (v : M) (t : Sheet M) → Setting (meanings o) j v s t → Kept o t
     set-kept j v t c = subst (Kept o) (sym c.is) (record {
       places = kept.places;
       table = length-set _ _ _ ∙ kept.table;
@@ -101,15 +105,19 @@ module _ {M : Type 0} {o : Ops M} (laws : Exact o) where
       values = λ k i z. kept.values k i (sym (renewed-value o s.plan s.rows kept.table (step_result o h s) k) ∙ z);
     })
 
-    pub call_kept : (w : Showing) (c : StoryCall M) (a : Answer (Sheet M)) → answer o w c s ≡ a → Kept o (left s a)
-    call_kept w c (refused r) e = kept
-    call_kept w (on_sheet n blank) (granted t) e = subst (Kept o) (sym (blank_went (numbers o) n s t e)) (blank_kept o)
-    call_kept w (on_sheet n (place p)) (granted t) e = place_kept p t (placed_went (numbers o) n s t p e)
-    call_kept w (on_sheet n (lift j)) (granted t) e = lift_kept j t (lifted_went (numbers o) n s t j e)
-    call_kept w (on_sheet n (set_value j v)) (granted t) e = set-kept j v t (set_went (numbers o) n s t j v e)
-    call_kept w (step n area h) (granted t) e = stepped_kept h t (step_went o w n area h s t e).1.1.1
+    pub call_kept : (a : TreeCall) → ((p : Plan) → Answers p (a p)) → (c : StoryCall M) (x : Answer (Sheet M)) → answer_by o a c s ≡ x → Kept o (left s x)
+    call_kept a says c (refused r) e = kept
+    call_kept a says (on_sheet n blank) (granted t) e = subst (Kept o) (sym (blank_went (meanings o) n s t e)) (blank_kept o)
+    call_kept a says (on_sheet n (place p)) (granted t) e = place_kept p t (placed_went (meanings o) n s t p e)
+    call_kept a says (on_sheet n (lift j)) (granted t) e = lift_kept j t (lifted_went (meanings o) n s t j e)
+    call_kept a says (on_sheet n (set_value j v)) (granted t) e = set-kept j v t (set_went (meanings o) n s t j v e)
+    call_kept a says (step n area h) (granted t) e = stepped_kept h t (step_went o a says n area h s t e).1.1.1
 
-  pub run-kept : (w : Showing) (cs : List (StoryCall M)) → Kept o (run o w cs)
+  pub kept_by : (a : TreeCall) → ((p : Plan) → Answers p (a p)) → (cs : List (StoryCall M)) → Kept o (run_by o a cs)
+  unfolding run_by
+  kept_by a says [] = blank_kept o
+  kept_by a says (c ∷ cs) = call_kept (run_by o a cs) (kept_by a says cs) a says c (answer_by o a c (run_by o a cs)) refl
+
+  pub run-kept : (cs : List (StoryCall M)) → Kept o (run o cs)
   unfolding run
-  run-kept w [] = blank_kept o
-  run-kept w (c ∷ cs) = call_kept (run o w cs) (run-kept w cs) w c (answer o w c (run o w cs)) refl
+  run-kept = kept_by tree_of by_the_call

@@ -9,7 +9,8 @@ use Rattle.linear.specs.Elimination.{entry}
 use Rattle.linear.specs.Systems.{sum, member, Solution, Singular, found}
 use Rattle.linear.proofs.Sums.{sum_same}
 use Rattle.linear.proofs.Theorem.{linear_systems}
-use Rattle.stories.specs.Networks.{graph_of, placed, kind_at, is_voltage, is_passive}
+use Rattle.topology.specs.Networks.{graph_of, placed}
+use Rattle.stories.specs.Networks.{kind_at, is_voltage, is_passive}
 use Rattle.stories.specs.Assembly.{entry_of, right_of, size, assembled}
 use Rattle.stories.specs.Steps.{parts_of, solving, figure_of, voltage_of, current_of}
 use Rattle.stories.specs.Laws.{Live, Dead, AllZero}
@@ -108,8 +109,8 @@ module _ {M : Type 0} {o : Ops M} (laws : Exact o) (p : Plan) (T : Set) (tree : 
 
   pub stuck : (solving o (parts_of o p T h at)).ok ≡ false → ((i u : ℕ → M) → Dead o p at h i u → AllZero o p i u) → ⊥
   unfolding solving parts_of
-  stuck no-pivot only =
-      go ((linear_systems laws).none (size (parts_of o p T h at)) (assembled o (parts_of o p T h at)) (few laws p T tree h at) (long laws p T tree volts h nh at nv) no-pivot)
+  stuck no_pivot only =
+      go ((linear_systems laws).none (size (parts_of o p T h at)) (assembled o (parts_of o p T h at)) (few laws p T tree h at) (long laws p T tree volts h nh at nv) no_pivot)
     where
       go : Singular o (size (parts_of o p T h at)) (assembled o (parts_of o p T h at)) → ⊥
       go s =

@@ -6,6 +6,7 @@ use Rattle.sheet.specs.declared.kind.Kind.{Kind}
 use Rattle.sheet.specs.declared.kind.Kind.TheVariants.{Resistor, Inductor, Capacitor, VoltageSource, CurrentSource}
 use Rattle.sheet.specs.declared.plan.Plan.{Plan}
 use Rattle.sheet.specs.declared.row.Row.{Row}
+use Rattle.sheet.specs.Calls.{Sheet}
 use Rattle.graphs.specs.Graph.{Set, ◌∈◌, count, Tree}
 use Rattle.graphs.specs.Cuts.{cut_row}
 use Rattle.graphs.proofs.Sets.{count-le}
@@ -13,12 +14,16 @@ use Rattle.linear.specs.Elimination.{entry}
 use Rattle.linear.specs.Systems.{sum, member, image, Solves, InKernel}
 use Rattle.linear.proofs.Ring.{ring}
 use Rattle.linear.proofs.Sums.{sum_same, sum_zero}
-use Rattle.stories.specs.Networks.{graph_of, placed, kind_at, is_voltage, is_passive}
+use Rattle.topology.specs.Networks.{graph_of, placed}
+use Rattle.topology.specs.Trees.{tree_set}
+use Rattle.topology.proofs.Networks.{placed_below}
+use Rattle.topology.proofs.Theory.{is_tree}
+use Rattle.stories.specs.Networks.{kind_at, is_voltage, is_passive}
 use Rattle.stories.specs.Companions.{conductance, feed}
 use Rattle.stories.specs.Assembly.{through, taken, agree, entry_of, right_of, size, assembled}
-use Rattle.stories.specs.Steps.{parts_of}
+use Rattle.stories.specs.Steps.{row_at, parts_of, step_parts}
 use Rattle.stories.specs.Laws.{stilled}
-use Rattle.stories.proofs.Networks.{placed_below, kept_few}
+use Rattle.stories.proofs.Networks.{kept_few}
 use Rattle.stories.proofs.Terms.{weight}
 use Rattle.stories.proofs.Counts.{count_at, count-lt}
 use Rattle.stories.proofs.Areas.{assembled-right}
@@ -28,13 +33,20 @@ use Rattle.stories.proofs.Rows.{weight_cong, image-sum, right-sum}
 abbrev pub still_rows : {M : Type 0} → Ops M → Plan → (ℕ → Row M) → ℕ → Row M
 still_rows o p at k = stilled o (kind_at p k) (at k)
 
+-- at most 15 unknowns
+pub few_unknown : {M : Type 0} (o : Ops M) (p : Plan) (T : Set) → Tree (graph_of p) (placed p) T → (h : M) (at : ℕ → Row M) → size (parts_of o p T h at) ≤ 15
+unfolding parts_of
+few_unknown o p T tree h at =
+    let a = count-le (λ k. T k && not (is_voltage (kind_at p k))) T 32 (λ k l m. (and_parts (T k) (not (is_voltage (kind_at p k))) m).0) in
+    let b = kept_few p T tree in
+    omega arith
+
+pub step_few : {M : Type 0} (o : Ops M) (h : M) (s : Sheet M) → size (step_parts o h s) ≤ 15
+step_few o h s = few_unknown o s.plan (tree_set s.plan) (is_tree s.plan) h (row_at o s.rows)
+
 module _ {M : Type 0} {o : Ops M} (laws : Exact o) (p : Plan) (T : Set) (tree : Tree (graph_of p) (placed p) T) (h : M) (at : ℕ → Row M) where
   pub few : size (parts_of o p T h at) ≤ 15
-  unfolding parts_of
-  few =
-      let a = count-le (λ k. T k && not (is_voltage (kind_at p k))) T 32 (λ k l m. (and_parts (T k) (not (is_voltage (kind_at p k))) m).0) in
-      let b = kept_few p T tree in
-      omega arith
+  few = few_unknown o p T tree h at
 
   pub unknown_tree : (k : ℕ) → k ∈ (parts_of o p T h at).unknown → k ∈ T
   unfolding parts_of

@@ -1,49 +1,63 @@
 -- The theorem of stories. Assumes nothing.
-use Rattle.std.proofs.Common.{◌≡◌, ℕ, ◌≤◌, Bool, true, false, not, ◌&&◌, ◌||◌, eqb, ltb, ◌↔◌, List, sym, refl, ap, subst, arith}
-use Rattle.std.proofs.lemmas.Bool.{both_ways, le-ltb, and_from}
+use Rattle.std.proofs.Common.{◌≡◌, ℕ, ◌≤◌, Bool, true, false, not, ◌&&◌, ◌||◌, eqb, ltb, ◌↔◌, sym, ap, subst, arith}
+use Rattle.std.proofs.lemmas.Bool.{le-ltb, and_from}
 use Rattle.arithmetic.specs.Ops.{Ops, Exact, may_divide}
+use Rattle.sheet.specs.declared.plan.Plan.{Plan}
 use Rattle.sheet.specs.Calls.{Sheet}
-use Rattle.stories.specs.Networks.{any, loose, late}
-use Rattle.stories.specs.Steps.{solving, unsound, renewed_rows, Showing, step_parts, step_result, stepped}
-use Rattle.stories.specs.Stories.{run}
-use Rattle.stories.specs.Theorem.{Passes, MeetsNeither, TreesOfStories, TheoremOfStories}
-use Rattle.stories.proofs.Trees.{best_tree}
-use Rattle.stories.proofs.Granting.{chain, step_solved}
-use Rattle.stories.proofs.Sheets.{run-kept}
+use Rattle.sheet.specs.Refusals.{Answer, granted}
+use Rattle.topology.specs.Meanings.{ProperTree}
+use Rattle.topology.specs.Trees.{tree_set, tree_of}
+use Rattle.stories.specs.Steps.{solving, unsound, renewed_rows, TreeCall, tree_showing, step_parts, step_result, stepped_by}
+use Rattle.stories.specs.Stories.{run_by}
+use Rattle.stories.specs.Theorem.{MeetsNeither, BestTree, BestKept, BestTrees, TreesBy, TheoremBy, TreesOfStories, TheoremOfStories, TreesShowing, TheoremShowing}
+use Rattle.stories.proofs.Trees.{none_loose, none_late, passes, best_kept, best_tree, Answers, loop, cut, tree, by_the_call, by_showing}
+use Rattle.stories.proofs.Granting.{chain, step-solved}
+use Rattle.stories.proofs.Sheets.{kept_by}
 use Rattle.stories.proofs.Sums.{sums}
 
--- past 1 and 11, a step meets neither 12 nor 13 exactly if both tests fail
-meets : {X : Type 0} (ws vs : List ℕ) (a b c d : Bool) (x : X) → MeetsNeither (chain false false ws a vs b c d x) ↔ ((a ≡ false) × (b ≡ false))
-meets ws vs true b c d x = (λ m. absurd (m.0 refl), λ e. absurd (both_ways true e.0 refl))
-meets ws vs false true c d x = (λ m. absurd (m.1 refl), λ e. absurd (both_ways true e.1 refl))
-meets ws vs false false true d x = (λ m. (refl, refl), λ e. (λ z. omega arith, λ z. omega arith))
-meets ws vs false false false true x = (λ m. (refl, refl), λ e. (λ z. omega arith, λ z. omega arith))
-meets ws vs false false false false x = (λ m. (refl, refl), λ e. (λ z. z, λ z. z))
+-- past 1 and 11, a step meets neither 12 nor 13 exactly if the tree that is kept is proper
+later : {X : Type 0} (w : ℕ) (c d : Bool) (x : X) → MeetsNeither (chain false false (granted w) c d x)
+later w true d x = (λ z. omega arith, λ z. omega arith)
+later w false true x = (λ z. omega arith, λ z. omega arith)
+later w false false x = (λ z. z, λ z. z)
 
-step_meets : {M : Type 0} (o : Ops M) (w : Showing) (area : ℕ) (h : M) (s : Sheet M) → o.is_sound h ≡ true → may_divide o h ≡ true → 304 ≤ area →
-    MeetsNeither (stepped o w 32 area h s) ↔ Passes s.plan
-step_meets o w area h s sound divide room =
+meets : {X : Type 0} (p : Plan) (a : Answer ℕ) → Answers p a → (c d : Bool) (x : X) → MeetsNeither (chain false false a c d x) ↔ ProperTree p (tree_set p)
+meets p a (loop k t i n e) c d x = (λ m. absurd ((subst (λ a. MeetsNeither (chain false false a c d x)) e m).0 n), λ proper. absurd (none_loose p proper k i))
+meets p a (cut k t i n e) c d x = (λ m. absurd ((subst (λ a. MeetsNeither (chain false false a c d x)) e m).1 n), λ proper. absurd (none_late p proper k i))
+meets p a (tree w proper e) c d x = (λ m. proper, λ q. subst (λ a. MeetsNeither (chain false false a c d x)) (sym e) (later w c d x))
+
+step_meets : {M : Type 0} (o : Ops M) (a : TreeCall) → ((p : Plan) → Answers p (a p)) → (area : ℕ) (h : M) (s : Sheet M) → o.is_sound h ≡ true → may_divide o h ≡ true → 304 ≤ area →
+    MeetsNeither (stepped_by o a 32 area h s) ↔ ProperTree s.plan (tree_set s.plan)
+step_meets o a says area h s sound divide room =
     let sizes : (not (eqb 32 32) || ltb area 304) ≡ false = le-ltb area 304 room in
     let good : not (o.is_sound h && may_divide o h) ≡ false = ap not (and_from _ _ sound divide) in
-    let f = subst (λ a. MeetsNeither a ↔ ((any (loose s.plan) 32 ≡ false) × (any (late s.plan) 32 ≡ false)))
-    (λ i. chain (sym sizes i) (sym good i) (w.loop s.plan) (any (loose s.plan) 32) (w.cut s.plan) (any (late s.plan) 32) (not (solving o (step_parts o h s)).ok) (unsound o s.plan (step_result o h s)) (record { plan = s.plan; rows = renewed_rows o s.plan s.rows (step_result o h s) }))
-    (meets (w.loop s.plan) (w.cut s.plan) (any (loose s.plan) 32) (any (late s.plan) 32) (not (solving o (step_parts o h s)).ok) (unsound o s.plan (step_result o h s)) (record { plan = s.plan; rows = renewed_rows o s.plan s.rows (step_result o h s) })) in
-    (λ m. let e = f.0 m in record { no_loop = e.0; no_cut = e.1 }, λ q. f.1 (q.no_loop, q.no_cut))
+    subst (λ x. MeetsNeither x ↔ ProperTree s.plan (tree_set s.plan))
+    (λ i. chain (sym sizes i) (sym good i) (a s.plan) (not (solving o (step_parts o h s)).ok) (unsound o s.plan (step_result o h s)) (record { plan = s.plan; rows = renewed_rows o s.plan s.rows (step_result o h s) }))
+    (meets s.plan (a s.plan) (says s.plan) (not (solving o (step_parts o h s)).ok) (unsound o s.plan (step_result o h s)) (record { plan = s.plan; rows = renewed_rows o s.plan s.rows (step_result o h s) }))
+
+-- the theorem where Best is said of what a answers
+module _ (a : TreeCall) (says : (p : Plan) → Answers p (a p)) (Best : Plan → Type 0 → Type 0) (best : (p : Plan) (met : Type 0) → met ↔ ProperTree p (tree_set p) → Best p met) where
+  trees_by : {M : Type 0} (o : Ops M) → TreesBy o a Best
+  trees_by o cs h area sound divide room = best (run_by o a cs).plan _ (step_meets o a says area h (run_by o a cs) sound divide room)
+
+  theorem_by : {M : Type 0} {o : Ops M} → Exact o → TheoremBy o a Best
+  theorem_by {o = o} laws = record {
+    solved = λ cs h area divide room. let kept = kept_by laws a says cs in step-solved laws (run_by o a cs) kept.table kept.values h divide a says area room;
+    trees = trees_by o;
+    sums = sums laws a says;
+  }
+
+pub best_trees : BestTrees
+best_trees p = best_kept p _ (passes p)
 
 pub trees_of_stories : {M : Type 0} (o : Ops M) → TreesOfStories o
-trees_of_stories o w cs h area sound divide room =
-    let b = best_tree (run o w cs).plan in
-    let m = step_meets o w area h (run o w cs) sound divide room in
-    record {
-      exactly = (λ q. b.exactly.0 (m.0 q), λ q. m.1 (b.exactly.1 q));
-      ours = b.ours;
-      most = b.most;
-      fewest = b.fewest;
-    }
+trees_of_stories = trees_by tree_of by_the_call BestTree best_tree
 
 pub theorem_of_stories : {M : Type 0} {o : Ops M} → Exact o → TheoremOfStories o
-theorem_of_stories {o = o} laws = record {
-  solved = λ w cs h area divide room. let kept = run-kept laws w cs in step_solved laws (run o w cs) kept.table kept.values h divide w area room;
-  trees = trees_of_stories o;
-  sums = sums laws;
-}
+theorem_of_stories = theorem_by tree_of by_the_call BestTree best_tree
+
+pub trees_showing : {M : Type 0} (o : Ops M) → TreesShowing o
+trees_showing o w = trees_by (tree_showing w) (by_showing w) BestKept best_kept o
+
+pub theorem_showing : {M : Type 0} {o : Ops M} → Exact o → TheoremShowing o
+theorem_showing laws w = theorem_by (tree_showing w) (by_showing w) BestKept best_kept laws

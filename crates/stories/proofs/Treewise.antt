@@ -9,7 +9,8 @@ use Rattle.sheet.specs.declared.row.Row.{Row}
 use Rattle.graphs.specs.Graph.{Set, ◌∈◌, Tree}
 use Rattle.linear.specs.Systems.{sum}
 use Rattle.linear.proofs.Ring.{ring}
-use Rattle.stories.specs.Networks.{graph_of, placed, kind_at, is_voltage, is_current, is_passive}
+use Rattle.topology.specs.Networks.{graph_of, placed}
+use Rattle.stories.specs.Networks.{kind_at, is_voltage, is_current, is_passive}
 use Rattle.stories.specs.Companions.{conductance, feed}
 use Rattle.stories.specs.Assembly.{entry_of, right_of}
 use Rattle.stories.specs.Steps.{parts_of}

@@ -10,7 +10,7 @@
 -- right_of t         the right side of t: fed, then levelled by each fixed branch in turn
 -- size               how many unknowns there are; the unknown t has row and column count unknown t
 -- blank_area         304 zeros
--- with_companions    conductance and feed of each resistor, inductor and capacitor k at the places k and 32 + k
+-- with_companions    conductance and feed of each branch k but voltage sources at the places k and 32 + k
 -- with_row           the row of t with its right side
 -- assembled          the whole area: all rows, lower unknowns first
 use Rattle.std.specs.Prelude.{ℕ, zero, suc, ◌+◌, cond, List, replicate, slice_set}
@@ -74,7 +74,7 @@ unfoldable pub blank_area : {M : Type 0} → Ops M → List M
 blank_area o = replicate 304 o.nought
 
 unfoldable pub with_companions : {M : Type 0} → Ops M → Parts M → List M → List M
-with_companions o c w = through (λ k w. cond (c.passive k) (slice_set (slice_set w k (c.conductance k)) (32 + k) (c.feed k)) w) 32 w
+with_companions o c w = through (λ k w. cond (c.feeding k) (slice_set (slice_set w k (c.conductance k)) (32 + k) (c.feed k)) w) 32 w
 
 unfoldable pub with_row : {M : Type 0} → Ops M → Parts M → ℕ → List M → List M
 with_row o c t w =

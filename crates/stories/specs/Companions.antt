@@ -1,6 +1,6 @@
 -- The companion models of one time step of length h: current = conductance × voltage + offset. Assumes nothing.
 --
--- conductance    R: 1 / value; L: h / value; C: value / h
+-- conductance    R: 1 / value; L: h / value; C: value / h; a source: zero
 -- offset         R: zero; L: the old current; C: the negative of conductance × old voltage
 -- feed           what a branch feeds its cuts besides: the offset of R, L, C; the value of a current source
 use Rattle.std.specs.Prelude.{Some, None, Option}

@@ -16,7 +16,8 @@ use Rattle.sheet.specs.declared.row.Row.{Row}
 use Rattle.graphs.specs.Graph.{◌∈◌, Sign, plus, none, minus}
 use Rattle.graphs.specs.Cuts.{incidence}
 use Rattle.linear.specs.Systems.{sum}
-use Rattle.stories.specs.Networks.{graph_of, placed, kind_at}
+use Rattle.topology.specs.Networks.{graph_of, placed}
+use Rattle.stories.specs.Networks.{kind_at}
 
 abbrev pub signed : {M : Type 0} → Ops M → Sign → M → M
 signed o plus x = x

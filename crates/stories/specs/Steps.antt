@@ -1,6 +1,5 @@
 -- One time step of a sheet: what it answers, and the rows that it leaves. Assumes nothing.
 --
--- numbers         what the calls on a sheet ask of a meaning
 -- row_at          the row at a place
 -- parts_of        what the system of a plan with a tree T, a step length and its rows is made of
 -- solving         the system eliminated and solved
@@ -14,27 +13,30 @@
 -- renewed_rows    the rows with those of every placed branch
 -- unsound         some current or voltage of a placed branch is unsound
 -- Showing         what refusals 12 and 13 show of a plan
--- showing         refused by that number with these words where the test holds, else what follows
--- stepped         the answer to a step: table and area lengths, step length, sheet
+-- TreeCall        for each plan a tree's word, or a refusal
+-- tree_showing w  the branches kept; 12 with what w shows where a voltage source is none of them, 13 where a current source is one
+-- stepped_by a    the answer to a step: table and area lengths, step length, what a answers of the plan, sheet
+-- stepped         the answer to a step by the tree's call
 use Rattle.std.specs.Prelude.{ℕ, Bool, true, false, cond, not, ◌&&◌, ◌||◌, List, ◌==◌, nat_lt, slice_index_or, slice_set}
 use Rattle.arithmetic.specs.Ops.{Ops, may_divide}
 use Rattle.sheet.specs.declared.plan.Plan.{Plan}
 use Rattle.sheet.specs.declared.row.Row.{Row}
-use Rattle.sheet.specs.Calls.{Numbers, valued, Sheet, zero_row}
-use Rattle.sheet.specs.Refusals.{Answer, granted, refused, refuse}
+use Rattle.sheet.specs.Calls.{Sheet, zero_row}
+use Rattle.sheet.specs.Meanings.{meanings}
+use Rattle.sheet.specs.Refusals.{Answer, granted, refused, refuse, after}
 use Rattle.graphs.specs.Graph.{Set, count}
 use Rattle.graphs.specs.Cuts.{turned, cut_row}
 use Rattle.linear.specs.Elimination.{entry, solved}
 use Rattle.linear.specs.Loops.{Tried}
-use Rattle.stories.specs.Networks.{graph_of, placed, kind_at, is_voltage, is_current, is_passive, tree_set, any, loose, late}
+use Rattle.topology.specs.Networks.{graph_of, placed}
+use Rattle.topology.specs.Trees.{tree_set, loose, late, tree_of}
+use Rattle.topology.specs.Words.{word}
+use Rattle.stories.specs.Networks.{kind_at, is_voltage, is_current, is_passive, any}
 use Rattle.stories.specs.Companions.{conductance, feed}
 use Rattle.stories.specs.Assembly.{through, taken, Parts, size, assembled}
 
-abbrev pub numbers : {M : Type 0} → Ops M → Numbers M
-numbers o = valued o (λ m. m) o.nought
-
 unfoldable pub row_at : {M : Type 0} → Ops M → List (Row M) → ℕ → Row M
-row_at o rows k = slice_index_or rows k (zero_row (numbers o))
+row_at o rows k = slice_index_or rows k (zero_row (meanings o))
 
 unfoldable pub parts_of : {M : Type 0} → Ops M → Plan → Set → M → (ℕ → Row M) → Parts M
 parts_of o p T h at = record {
@@ -90,6 +92,13 @@ renewed_rows o p rows f =
 unfoldable pub unsound : {M : Type 0} → Ops M → Plan → Result M → Bool
 unsound o p f = any (λ k. placed p k && not (o.is_sound (f.current k) && o.is_sound (f.voltage k))) 32
 
+-- the parts of a sheet's next step, and what it finds
+abbrev pub step_parts : {M : Type 0} → Ops M → M → Sheet M → Parts M
+step_parts o h s = parts_of o s.plan (tree_set s.plan) h (row_at o s.rows)
+
+abbrev pub step_result : {M : Type 0} → Ops M → M → Sheet M → Result M
+step_result o h s = result_of o (step_parts o h s) (figure_of o (step_parts o h s))
+
 pub record Showing : Type 0 where
   pub loop : Plan → List ℕ
   pub cut : Plan → List ℕ
@@ -98,19 +107,23 @@ abbrev pub showing : {X : Type 0} → ℕ → List ℕ → Bool → Answer X →
 showing n ws true rest = refused (record { number = n; words = ws })
 showing n ws false rest = rest
 
--- the parts of a sheet's next step, and what it finds
-abbrev pub step_parts : {M : Type 0} → Ops M → M → Sheet M → Parts M
-step_parts o h s = parts_of o s.plan (tree_set s.plan) h (row_at o s.rows)
+abbrev pub TreeCall : Type 0
+TreeCall = Plan → Answer ℕ
 
-abbrev pub step_result : {M : Type 0} → Ops M → M → Sheet M → Result M
-step_result o h s = result_of o (step_parts o h s) (figure_of o (step_parts o h s))
+abbrev pub tree_showing : Showing → TreeCall
+tree_showing w p =
+    showing 12 (w.loop p) (any (loose p) 32)
+    (showing 13 (w.cut p) (any (late p) 32)
+    (granted (word (tree_set p))))
 
-abbrev pub stepped : {M : Type 0} → Ops M → Showing → ℕ → ℕ → M → Sheet M → Answer (Sheet M)
-stepped o w n area h s =
+abbrev pub stepped_by : {M : Type 0} → Ops M → TreeCall → ℕ → ℕ → M → Sheet M → Answer (Sheet M)
+stepped_by o a n area h s =
     refuse 1 (not (n == 32) || nat_lt area 304)
     (refuse 11 (not (o.is_sound h && may_divide o h))
-    (showing 12 (w.loop s.plan) (any (loose s.plan) 32)
-    (showing 13 (w.cut s.plan) (any (late s.plan) 32)
-    (refuse 14 (not (solving o (step_parts o h s)).ok)
+    (after (a s.plan) (λ tree.
+    refuse 14 (not (solving o (step_parts o h s)).ok)
     (refuse 15 (unsound o s.plan (step_result o h s))
-    (granted (record { plan = s.plan; rows = renewed_rows o s.plan s.rows (step_result o h s) })))))))
+    (granted (record { plan = s.plan; rows = renewed_rows o s.plan s.rows (step_result o h s) }))))))
+
+abbrev pub stepped : {M : Type 0} → Ops M → ℕ → ℕ → M → Sheet M → Answer (Sheet M)
+stepped o = stepped_by o tree_of

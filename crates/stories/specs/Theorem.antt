@@ -3,11 +3,19 @@
 -- Granted         the answer is no refusal
 -- OnlyZeroDead    every dead list is zero at every placed branch
 -- Solved          a step of length h: granted exactly if only the zero list is dead; the rows it leaves are the one live list
--- Passes          no voltage source is left out of the tree that is kept, and no current source is in it
 -- MeetsNeither    an answer that is no refusal by 12 or 13
--- BestTree        a step passes exactly if some tree has every voltage source and no current source; the tree that is kept
---                 is then one, with the most capacitors (class 1) and the fewest inductors (class 3)
--- Sums            value × change of voltage is the sum of step length × current, at a capacitor; of current and voltage, at an inductor
+-- Passes          no voltage source is left out of the tree that is kept, and no current source is in it
+-- BestTree p met  met holds exactly if some tree is proper: it has every voltage source and no current source; the tree's
+--                 call then grants one, with the most capacitors (class 1) and the fewest inductors (class 3)
+-- BestKept p met  the same of the tree that is kept
+-- BestTrees       a plan passes exactly if some tree is proper
+-- SumsBy          value × change of voltage is the sum of step length × current, at a capacitor; of current and voltage, at an inductor
+-- TreesBy a Best, TheoremBy a Best
+--                 the theorem where a answers with a plan's tree, and Best is said of that
+-- TreesOfStories, TheoremOfStories
+--                 the theorem by the tree's call
+-- TreesShowing, TheoremShowing
+--                 the theorem whatever 12 and 13 show
 use Rattle.std.specs.Prelude.{◌≡◌, ℕ, ◌≤◌, true, false, ◌↔◌, List, Some}
 use Rattle.arithmetic.specs.Ops.{Ops, may_divide}
 use Rattle.sheet.specs.declared.kind.Kind.TheVariants.{Inductor, Capacitor}
@@ -15,10 +23,14 @@ use Rattle.sheet.specs.declared.plan.Plan.{Plan}
 use Rattle.sheet.specs.Calls.{Sheet}
 use Rattle.sheet.specs.Refusals.{Answer, granted, refused}
 use Rattle.graphs.specs.Graph.{Set, ◌∈◌, count}
-use Rattle.graphs.specs.Greedy.{of_class, Proper}
-use Rattle.stories.specs.Networks.{graph_of, placed, class_at, kind_at, tree_set, any, loose, late}
-use Rattle.stories.specs.Steps.{row_at, Showing, stepped}
-use Rattle.stories.specs.Stories.{StoryCall, run, start_of, sum_of}
+use Rattle.graphs.specs.Greedy.{of_class}
+use Rattle.topology.specs.Meanings.{ProperTree}
+use Rattle.topology.specs.Networks.{placed, class_at}
+use Rattle.topology.specs.Trees.{tree_set, loose, late, tree_of}
+use Rattle.topology.specs.Words.{bits}
+use Rattle.stories.specs.Networks.{kind_at, any}
+use Rattle.stories.specs.Steps.{row_at, Showing, TreeCall, tree_showing, stepped_by}
+use Rattle.stories.specs.Stories.{StoryCall, run_by, start_by, sum_by}
 use Rattle.stories.specs.Laws.{Live, Dead, AllZero}
 
 pub record Granted {X : Type 0} (a : Answer X) : Type 0 where
@@ -49,33 +61,51 @@ RefusedBy n (refused t) = t.number ≡ n
 abbrev pub MeetsNeither : {X : Type 0} → Answer X → Type 0
 MeetsNeither a = (RefusedBy 12 a → ⊥) × (RefusedBy 13 a → ⊥)
 
-pub record BestTree (p : Plan) (passes : Type 0) : Type 0 where
-  pub exactly : passes ↔ ((S : Set) × Proper (graph_of p) (class_at p) (placed p) S)
-  pub ours : (S : Set) → Proper (graph_of p) (class_at p) (placed p) S → Proper (graph_of p) (class_at p) (placed p) (tree_set p)
-  pub most : (S : Set) → Proper (graph_of p) (class_at p) (placed p) S → count (of_class (class_at p) 1 S) 32 ≤ count (of_class (class_at p) 1 (tree_set p)) 32
-  pub fewest : (S : Set) → Proper (graph_of p) (class_at p) (placed p) S → count (of_class (class_at p) 3 (tree_set p)) 32 ≤ count (of_class (class_at p) 3 S) 32
+pub record BestTree (p : Plan) (met : Type 0) : Type 0 where
+  pub exactly : met ↔ ((S : Set) × ProperTree p S)
+  pub ours : (S : Set) → ProperTree p S → (w : ℕ) × (tree_of p ≡ granted w) × ProperTree p (bits w)
+  pub most : (S : Set) → ProperTree p S → (w : ℕ) → tree_of p ≡ granted w → count (of_class (class_at p) 1 S) 32 ≤ count (of_class (class_at p) 1 (bits w)) 32
+  pub fewest : (S : Set) → ProperTree p S → (w : ℕ) → tree_of p ≡ granted w → count (of_class (class_at p) 3 (bits w)) 32 ≤ count (of_class (class_at p) 3 S) 32
+
+pub record BestKept (p : Plan) (met : Type 0) : Type 0 where
+  pub exactly : met ↔ ((S : Set) × ProperTree p S)
+  pub ours : (S : Set) → ProperTree p S → ProperTree p (tree_set p)
+  pub most : (S : Set) → ProperTree p S → count (of_class (class_at p) 1 S) 32 ≤ count (of_class (class_at p) 1 (tree_set p)) 32
+  pub fewest : (S : Set) → ProperTree p S → count (of_class (class_at p) 3 (tree_set p)) 32 ≤ count (of_class (class_at p) 3 S) 32
 
 abbrev pub BestTrees : Type 0
-BestTrees = (p : Plan) → BestTree p (Passes p)
+BestTrees = (p : Plan) → BestKept p (Passes p)
 
-pub record Sums {M : Type 0} (o : Ops M) (w : Showing) (cs : List (StoryCall M)) (k : ℕ) : Type 0 where
+pub record SumsBy {M : Type 0} (o : Ops M) (a : TreeCall) (cs : List (StoryCall M)) (k : ℕ) : Type 0 where
   pub charge :
-      kind_at (run o w cs).plan k ≡ Some Capacitor →
-      o.mul (row_at o (run o w cs).rows k).value (o.sub (row_at o (run o w cs).rows k).voltage (start_of o w cs k)) ≡ sum_of o w (λ r. r.current) cs k
+      kind_at (run_by o a cs).plan k ≡ Some Capacitor →
+      o.mul (row_at o (run_by o a cs).rows k).value (o.sub (row_at o (run_by o a cs).rows k).voltage (start_by o a cs k)) ≡ sum_by o a (λ r. r.current) cs k
   pub flux :
-      kind_at (run o w cs).plan k ≡ Some Inductor →
-      o.mul (row_at o (run o w cs).rows k).value (o.sub (row_at o (run o w cs).rows k).current (start_of o w cs k)) ≡ sum_of o w (λ r. r.voltage) cs k
+      kind_at (run_by o a cs).plan k ≡ Some Inductor →
+      o.mul (row_at o (run_by o a cs).rows k).value (o.sub (row_at o (run_by o a cs).rows k).current (start_by o a cs k)) ≡ sum_by o a (λ r. r.voltage) cs k
 
--- in every arithmetic, whatever 12 and 13 show: after every story, a step of a sound length that is not zero, with 32 rows and at least 304 places
-abbrev pub TreesOfStories : {M : Type 0} → Ops M → Type 0
-TreesOfStories o =
-    (w : Showing) (cs : List (StoryCall _)) (h : _) (area : ℕ) → o.is_sound h ≡ true → may_divide o h ≡ true → 304 ≤ area →
-    BestTree (run o w cs).plan (MeetsNeither (stepped o w 32 area h (run o w cs)))
+-- in every arithmetic: after every story, a step of a sound length that is not zero, with 32 rows and at least 304 places
+abbrev pub TreesBy : {M : Type 0} → Ops M → TreeCall → (Plan → Type 0 → Type 0) → Type 0
+TreesBy o a Best =
+    (cs : List (StoryCall _)) (h : _) (area : ℕ) → o.is_sound h ≡ true → may_divide o h ≡ true → 304 ≤ area →
+    Best (run_by o a cs).plan (MeetsNeither (stepped_by o a 32 area h (run_by o a cs)))
 
 -- in an exact one
-pub record TheoremOfStories {M : Type 0} (o : Ops M) : Type 0 where
+pub record TheoremBy {M : Type 0} (o : Ops M) (a : TreeCall) (Best : Plan → Type 0 → Type 0) : Type 0 where
   pub solved :
-      (w : Showing) (cs : List (StoryCall M)) (h : M) (area : ℕ) → may_divide o h ≡ true → 304 ≤ area →
-      Solved o h (run o w cs) (stepped o w 32 area h (run o w cs))
-  pub trees : TreesOfStories o
-  pub sums : (w : Showing) (cs : List (StoryCall M)) (k : ℕ) → Sums o w cs k
+      (cs : List (StoryCall M)) (h : M) (area : ℕ) → may_divide o h ≡ true → 304 ≤ area →
+      Solved o h (run_by o a cs) (stepped_by o a 32 area h (run_by o a cs))
+  pub trees : TreesBy o a Best
+  pub sums : (cs : List (StoryCall M)) (k : ℕ) → SumsBy o a cs k
+
+abbrev pub TreesOfStories : {M : Type 0} → Ops M → Type 0
+TreesOfStories o = TreesBy o tree_of BestTree
+
+abbrev pub TheoremOfStories : {M : Type 0} → Ops M → Type 0
+TheoremOfStories o = TheoremBy o tree_of BestTree
+
+abbrev pub TreesShowing : {M : Type 0} → Ops M → Type 0
+TreesShowing o = (w : Showing) → TreesBy o (tree_showing w) BestKept
+
+abbrev pub TheoremShowing : {M : Type 0} → Ops M → Type 0
+TheoremShowing o = (w : Showing) → TheoremBy o (tree_showing w) BestKept
