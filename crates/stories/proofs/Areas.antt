@@ -4,12 +4,13 @@ use lib.ListN.{length-replicate}
 use Rattle.std.proofs.lemmas.Bool.{cases_eq}
 use Rattle.arithmetic.specs.Ops.{Ops}
 use Rattle.graphs.specs.Graph.{Set, ◌∈◌, count}
-use Rattle.linear.specs.Elimination.{cell, entry, solved}
+use Rattle.linear.specs.Elimination.{cell, entry}
 use Rattle.linear.specs.Inside.{SameSystem}
 use Rattle.linear.proofs.Depends.{inside}
 use Rattle.linear.proofs.Entries.{entry_same, entry_column, entry_row}
-use Rattle.stories.specs.Assembly.{through, Parts, entry_of, right_of, size, blank_area, with_companions, with_row, assembled}
+use Rattle.stories.specs.Assembly.{through, Parts, entry_of, right_of, size, blank_area, with_companions, with_row, written, assembled}
 use Rattle.stories.specs.Steps.{solving}
+use Rattle.stories.specs.Theorem.{FoundOn}
 use Rattle.stories.proofs.Counts.{count_at, count-lt, count_mono}
 
 -- turns that keep the length
@@ -89,19 +90,15 @@ module _ {M : Type 0} (o : Ops M) (c : Parts M) (few : size c ≤ 15) where
   unfolding with_companions blank_area
   start_long = turns_long c.feeding (λ k w. set (set w k (c.conductance k)) (32 + k) (c.feed k)) (λ k w. length-set _ _ _ ∙ length-set _ _ _) 32 _ ∙ length-replicate 304 o.nought
 
-  -- the rows of the unknowns over an area
-  abbrev over : List M → List M
-  over w = through (λ t w. cond (c.unknown t) (with_row o c t w) w) 32 w
-
-  over_entry : (w : List M) → length w ≡ 304 → (t r : ℕ) → t < 32 → t ∈ c.unknown → r < 32 → r ∈ c.unknown → entry o (over w) (count c.unknown t) (count c.unknown r) ≡ entry_of o c t r
-  over_entry w long t r ht mt hr mr =
+  written-entry : (w : List M) → length w ≡ 304 → (t r : ℕ) → t < 32 → t ∈ c.unknown → r < 32 → r ∈ c.unknown → entry o (written o c w) (count c.unknown t) (count c.unknown r) ≡ entry_of o c t r
+  written-entry w long t r ht mt hr mr =
       turns_own c.unknown (with_row o c) (λ w. entry o w (count c.unknown t) (count c.unknown r)) (entry_of o c t r) 304 t 32 ht mt row_long
       (row_own t r ht mt hr mr)
       (λ k w lt lk mk. let z = count-lt c.unknown t k mt lt in row_other k (count c.unknown t) (count c.unknown r) w (omega arith) (place_le r hr))
       w long
 
-  over_right : (w : List M) → length w ≡ 304 → (t : ℕ) → t < 32 → t ∈ c.unknown → entry o (over w) (count c.unknown t) (size c) ≡ right_of o c t
-  over_right w long t ht mt =
+  written_right : (w : List M) → length w ≡ 304 → (t : ℕ) → t < 32 → t ∈ c.unknown → entry o (written o c w) (count c.unknown t) (size c) ≡ right_of o c t
+  written_right w long t ht mt =
       turns_own c.unknown (with_row o c) (λ w. entry o w (count c.unknown t) (size c)) (right_of o c t) 304 t 32 ht mt row_long
       (row_right t ht mt)
       (λ k w lt lk mk. let z = count-lt c.unknown t k mt lt in row_other k (count c.unknown t) (size c) w (omega arith) few)
@@ -113,29 +110,32 @@ module _ {M : Type 0} (o : Ops M) (c : Parts M) (few : size c ≤ 15) where
 
   pub assembled-entry : (t r : ℕ) → t < 32 → t ∈ c.unknown → r < 32 → r ∈ c.unknown → entry o (assembled o c) (count c.unknown t) (count c.unknown r) ≡ entry_of o c t r
   unfolding assembled
-  assembled-entry = over_entry (with_companions o c (blank_area o)) start_long
+  assembled-entry = written-entry (with_companions o c (blank_area o)) start_long
 
   pub assembled-right : (t : ℕ) → t < 32 → t ∈ c.unknown → entry o (assembled o c) (count c.unknown t) (size c) ≡ right_of o c t
   unfolding assembled
-  assembled-right = over_right (with_companions o c (blank_area o)) start_long
+  assembled-right = written_right (with_companions o c (blank_area o)) start_long
 
   -- an area that held anything else before the rows has the same system, and so the same is found
-  pub any_area : (w : List M) → length w ≡ 304 → ((solving o c).ok ≡ (solved o (size c) (over w)).ok) × SameSystem o (size c) (solving o c).left (solved o (size c) (over w)).left
+  pub found_on : (w : List M) → length w ≡ 304 → FoundOn o c w
   unfolding solving
-  any_area w long =
+  found_on w long =
       let old = assembled_long in
-      let new : length (over w) ≡ 304 = turns_long c.unknown (with_row o c) row_long 32 w ∙ long in
-      ((inside o).answers (size c) (assembled o c) (over w) few (omega arith) (omega arith) same, (inside o).reads (size c) (assembled o c) (over w) few (omega arith) (omega arith) same)
+      let new : length (written o c w) ≡ 304 = turns_long c.unknown (with_row o c) row_long 32 w ∙ long in
+      record {
+        ok = (inside o).answers (size c) (written o c w) (assembled o c) few (omega arith) (omega arith) same;
+        figures = λ r lt. (inside o).reads (size c) (written o c w) (assembled o c) few (omega arith) (omega arith) same r (size c) lt (omega arith);
+      }
     where
-      same : SameSystem o (size c) (assembled o c) (over w)
+      same : SameSystem o (size c) (written o c w) (assembled o c)
       same r k hr hk =
           let t = count_at c.unknown 32 r hr in
           elim (cases_eq k (size c)) [
-            | inl e ↦ subst₂ (λ r k. entry o (assembled o c) r k ≡ entry o (over w) r k) t.1.1.1 (sym e) (assembled-right t.0 t.1.0 t.1.1.0 ∙ sym (over_right w long t.0 t.1.0 t.1.1.0))
+            | inl e ↦ subst₂ (λ r k. entry o (written o c w) r k ≡ entry o (assembled o c) r k) t.1.1.1 (sym e) (written_right w long t.0 t.1.0 t.1.1.0 ∙ sym (assembled-right t.0 t.1.0 t.1.1.0))
             | inr d ↦
                 let u = count_at c.unknown 32 k (omega arith) in
-                subst₂ (λ r k. entry o (assembled o c) r k ≡ entry o (over w) r k) t.1.1.1 u.1.1.1
-                (assembled-entry t.0 u.0 t.1.0 t.1.1.0 u.1.0 u.1.1.0 ∙ sym (over_entry w long t.0 u.0 t.1.0 t.1.1.0 u.1.0 u.1.1.0))
+                subst₂ (λ r k. entry o (written o c w) r k ≡ entry o (assembled o c) r k) t.1.1.1 u.1.1.1
+                (written-entry w long t.0 u.0 t.1.0 t.1.1.0 u.1.0 u.1.1.0 ∙ sym (assembled-entry t.0 u.0 t.1.0 t.1.1.0 u.1.0 u.1.1.0))
           ]
 
 -- the places below the system: conductance and feed of each feeding branch stay there, also while the system is solved

@@ -9,7 +9,9 @@ use Rattle.topology.specs.Meanings.{ProperTree}
 use Rattle.topology.specs.Trees.{tree_set, tree_of}
 use Rattle.stories.specs.Steps.{solving, unsound, renewed_rows, TreeCall, tree_showing, step_parts, step_result, stepped_by}
 use Rattle.stories.specs.Stories.{run_by}
-use Rattle.stories.specs.Theorem.{MeetsNeither, BestTree, BestKept, BestTrees, TreesBy, TheoremBy, TreesOfStories, TheoremOfStories, TreesShowing, TheoremShowing}
+use Rattle.stories.specs.Theorem.{MeetsNeither, BestTree, BestKept, BestTrees, AnyArea, TreesBy, TheoremBy, TreesOfStories, TheoremOfStories, TreesShowing, TheoremShowing}
+use Rattle.stories.proofs.Areas.{found_on}
+use Rattle.stories.proofs.Systems.{step_few}
 use Rattle.stories.proofs.Trees.{none_loose, none_late, passes, best_kept, best_tree, Answers, loop, cut, tree, by_the_call, by_showing}
 use Rattle.stories.proofs.Granting.{chain, step-solved}
 use Rattle.stories.proofs.Sheets.{kept_by}
@@ -49,6 +51,9 @@ module _ (a : TreeCall) (says : (p : Plan) → Answers p (a p)) (Best : Plan →
 
 pub best_trees : BestTrees
 best_trees p = best_kept p _ (passes p)
+
+pub any_area : {M : Type 0} (o : Ops M) → AnyArea o
+any_area o h s = found_on o (step_parts o h s) (step_few o h s)
 
 pub trees_of_stories : {M : Type 0} (o : Ops M) → TreesOfStories o
 trees_of_stories = trees_by tree_of by_the_call BestTree best_tree

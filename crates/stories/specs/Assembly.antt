@@ -12,7 +12,8 @@
 -- blank_area         304 zeros
 -- with_companions    conductance and feed of each branch k but voltage sources at the places k and 32 + k
 -- with_row           the row of t with its right side
--- assembled          the whole area: all rows, lower unknowns first
+-- written w          the area w with all rows, lower unknowns first
+-- assembled          the whole area: all rows over the companions in a blank one
 use Rattle.std.specs.Prelude.{ℕ, zero, suc, ◌+◌, cond, List, replicate, slice_set}
 use Rattle.arithmetic.specs.Ops.{Ops}
 use Rattle.graphs.specs.Graph.{Set, count, Sign, plus, none, minus}
@@ -81,5 +82,8 @@ with_row o c t w =
     slice_set (through (λ r w. cond (c.unknown r) (slice_set w (cell (count c.unknown t) (count c.unknown r)) (entry_of o c t r)) w) 32 w)
     (cell (count c.unknown t) (size c)) (right_of o c t)
 
+abbrev pub written : {M : Type 0} → Ops M → Parts M → List M → List M
+written o c w = through (λ t w. cond (c.unknown t) (with_row o c t w) w) 32 w
+
 unfoldable pub assembled : {M : Type 0} → Ops M → Parts M → List M
-assembled o c = through (λ t w. cond (c.unknown t) (with_row o c t w) w) 32 (with_companions o c (blank_area o))
+assembled o c = written o c (with_companions o c (blank_area o))

@@ -4,10 +4,8 @@
 -- blank_sheet     the sheet that a granted blank leaves
 -- answer_by a     what a call answers on a sheet, where a answers with a plan's tree
 -- run_by a cs     the sheet after the calls cs, the latest first, from the blank sheet; a refused call leaves the sheet
--- start_by a cs k
---                 the start that the last granted place at k was given
--- sum_by a f cs k
---                 the sum, over the steps granted since that place, of step length × the figure f that the step left in the row of k
+-- start_by a cs k the start that the last granted place at k was given
+-- sum_by a f cs k the sum, over the steps granted since that place, of step length × the figure f that the step left in the row of k
 -- answer, run, start_of, sum_of
 --                 the same by the tree's call
 use Rattle.std.specs.Prelude.{ℕ, cond, List, [], ◌∷◌, replicate, ◌==◌}
@@ -65,6 +63,7 @@ sum_by o a f (c ∷ cs) k = new_sum o f k c (sum_by o a f cs k) (answer_by o a c
 abbrev pub answer : {M : Type 0} → Ops M → StoryCall M → Sheet M → Answer (Sheet M)
 answer o = answer_by o tree_of
 
+-- who unfolds run unfolds run_by too
 unfoldable pub run : {M : Type 0} → Ops M → List (StoryCall M) → Sheet M
 unfolding run_by
 run o = run_by o tree_of

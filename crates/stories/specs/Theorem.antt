@@ -9,14 +9,15 @@
 --                 call then grants one, with the most capacitors (class 1) and the fewest inductors (class 3)
 -- BestKept p met  the same of the tree that is kept
 -- BestTrees       a plan passes exactly if some tree is proper
+-- AnyArea         a step finds the same whatever stood in its area before the rows were written, companions or none
 -- SumsBy          value × change of voltage is the sum of step length × current, at a capacitor; of current and voltage, at an inductor
 -- TreesBy a Best, TheoremBy a Best
 --                 the theorem where a answers with a plan's tree, and Best is said of that
--- TreesOfStories, TheoremOfStories
+-- Sums, TreesOfStories, TheoremOfStories
 --                 the theorem by the tree's call
 -- TreesShowing, TheoremShowing
 --                 the theorem whatever 12 and 13 show
-use Rattle.std.specs.Prelude.{◌≡◌, ℕ, ◌≤◌, true, false, ◌↔◌, List, Some}
+use Rattle.std.specs.Prelude.{◌≡◌, ℕ, ◌<◌, ◌≤◌, true, false, ◌↔◌, List, length, Some}
 use Rattle.arithmetic.specs.Ops.{Ops, may_divide}
 use Rattle.sheet.specs.declared.kind.Kind.TheVariants.{Inductor, Capacitor}
 use Rattle.sheet.specs.declared.plan.Plan.{Plan}
@@ -24,12 +25,14 @@ use Rattle.sheet.specs.Calls.{Sheet}
 use Rattle.sheet.specs.Refusals.{Answer, granted, refused}
 use Rattle.graphs.specs.Graph.{Set, ◌∈◌, count}
 use Rattle.graphs.specs.Greedy.{of_class}
+use Rattle.linear.specs.Elimination.{entry, solved}
 use Rattle.topology.specs.Meanings.{ProperTree}
 use Rattle.topology.specs.Networks.{placed, class_at}
 use Rattle.topology.specs.Trees.{tree_set, loose, late, tree_of}
 use Rattle.topology.specs.Words.{bits}
 use Rattle.stories.specs.Networks.{kind_at, any}
-use Rattle.stories.specs.Steps.{row_at, Showing, TreeCall, tree_showing, stepped_by}
+use Rattle.stories.specs.Assembly.{Parts, size, written}
+use Rattle.stories.specs.Steps.{row_at, solving, figure_of, step_parts, Showing, TreeCall, tree_showing, stepped_by}
 use Rattle.stories.specs.Stories.{StoryCall, run_by, start_by, sum_by}
 use Rattle.stories.specs.Laws.{Live, Dead, AllZero}
 
@@ -76,6 +79,13 @@ pub record BestKept (p : Plan) (met : Type 0) : Type 0 where
 abbrev pub BestTrees : Type 0
 BestTrees = (p : Plan) → BestKept p (Passes p)
 
+pub record FoundOn {M : Type 0} (o : Ops M) (c : Parts M) (w : List M) : Type 0 where
+  pub ok : (solved o (size c) (written o c w)).ok ≡ (solving o c).ok
+  pub figures : (r : ℕ) → r < size c → entry o (solved o (size c) (written o c w)).left r (size c) ≡ figure_of o c r
+
+abbrev pub AnyArea : {M : Type 0} → Ops M → Type 0
+AnyArea o = (h : _) (s : Sheet _) (w : List _) → length w ≡ 304 → FoundOn o (step_parts o h s) w
+
 pub record SumsBy {M : Type 0} (o : Ops M) (a : TreeCall) (cs : List (StoryCall M)) (k : ℕ) : Type 0 where
   pub charge :
       kind_at (run_by o a cs).plan k ≡ Some Capacitor →
@@ -97,6 +107,9 @@ pub record TheoremBy {M : Type 0} (o : Ops M) (a : TreeCall) (Best : Plan → Ty
       Solved o h (run_by o a cs) (stepped_by o a 32 area h (run_by o a cs))
   pub trees : TreesBy o a Best
   pub sums : (cs : List (StoryCall M)) (k : ℕ) → SumsBy o a cs k
+
+abbrev pub Sums : {M : Type 0} → Ops M → List (StoryCall M) → ℕ → Type 0
+Sums o = SumsBy o tree_of
 
 abbrev pub TreesOfStories : {M : Type 0} → Ops M → Type 0
 TreesOfStories o = TreesBy o tree_of BestTree

@@ -2,7 +2,7 @@
 #![tactic(auto)]
 
 ghost use Rattle.std.specs.Prelude.{T};
-ghost use Rattle.stories.specs.Theorem.{BestTrees, TreesOfStories, TheoremOfStories, TreesShowing, TheoremShowing};
+ghost use Rattle.stories.specs.Theorem.{BestTrees, AnyArea, TreesOfStories, TheoremOfStories, TreesShowing, TheoremShowing};
 
 use arithmetic::Arithmetic;
 
@@ -10,6 +10,11 @@ use arithmetic::Arithmetic;
 // tree has every voltage source and no current source; the tree that is kept is then the best of these.
 pub fn best_trees()
     ensures { BestTrees }
+{}
+
+// In every arithmetic, a step finds the same whatever its area held before its rows were written.
+pub fn areas_of_steps<N: Arithmetic>()
+    ensures { AnyArea N.ops }
 {}
 
 // In every arithmetic, after every story: a step meets neither 12 nor 13 exactly if some tree has every voltage source
