@@ -1,40 +1,13 @@
 -- The frame of a plan: its words by kind, and its cut rows. Assumes nothing.
-use Rattle.std.proofs.Common.{◌≡◌, ℕ, ◌+◌, ◌<◌, Bool, true, false, cond, not, ◌&&◌, ◌||◌, ltb, leb, List, length, get_or, set, is_some, Some, None, Option, sym, refl, ap, ◌∙◌, inl, inr, arith, length-set, get_or-set_other, get_or-set_same}
-use Rattle.std.proofs.lemmas.Bool.{cases_eq}
+use Rattle.std.proofs.Common.{◌≡◌, ℕ, Bool, true, false, cond, not, ◌&&◌, ◌||◌, ltb, leb, is_some, Some, None, Option, sym, refl, ◌∙◌}
 use Rattle.sheet.specs.declared.branch.Branch.{Branch}
 use Rattle.sheet.specs.declared.kind.Kind.{Kind}
 use Rattle.sheet.specs.declared.kind.Kind.TheVariants.{Resistor, Inductor, Capacitor, VoltageSource, CurrentSource}
 use Rattle.sheet.specs.declared.plan.Plan.{Plan}
-use Rattle.sheet.specs.declared.refusal.Shown.{Shown}
 use Rattle.sheet.specs.Plans.{branch_at}
-use Rattle.graphs.specs.Graph.{◌∈◌}
 use Rattle.graphs.specs.Greedy.{up_to}
-use Rattle.graphs.specs.Cuts.{cut_row}
-use Rattle.topology.specs.Networks.{kind_class, class_found, graph_of, placed, class_at}
-use Rattle.topology.specs.Rows.{shown}
-use Rattle.topology.specs.Words.{bits}
+use Rattle.topology.specs.Networks.{kind_class, class_found, placed, class_at}
 use Rattle.tree_stories.specs.Networks.{kind_found, kind_at, is_passive, is_current, is_voltage}
-use Rattle.assembly.specs.Frames.{nothing}
-
--- the cut rows of the tree branches below n
-pub record CutsTo (p : Plan) (w n : ℕ) (xs : List Shown) : Type 0 where
-  pub long : length xs ≡ 32
-  pub each : (t : ℕ) → t < n → t ∈ bits w → get_or xs t nothing ≡ shown (cut_row (graph_of p) (bits w) 32 t)
-
-pub cuts-none : (p : Plan) (w : ℕ) (xs : List Shown) → length xs ≡ 32 → CutsTo p w 0 xs
-cuts-none p w xs e = record { long = e; each = λ t l m. absurd (omega arith) }
-
-pub cuts_more : (p : Plan) (w n : ℕ) (xs : List Shown) (x : Shown) → CutsTo p w n xs → n < 32 → (n ∈ bits w → x ≡ shown (cut_row (graph_of p) (bits w) 32 n)) → CutsTo p w (n + 1) (set xs n x)
-cuts_more p w n xs x h l e = record {
-  long = length-set xs n x ∙ h.long;
-  each = λ t b m. elim (cases_eq t n) [ inl i ↦ here t i m | inr d ↦ get_or-set_other xs n t x nothing (omega arith) ∙ h.each t (omega arith) m ];
-}
-  where
-    here : (t : ℕ) → t ≡ n → t ∈ bits w → get_or (set xs n x) t nothing ≡ shown (cut_row (graph_of p) (bits w) 32 t)
-    here t i m =
-        let long = h.long in
-        ap (λ (k : ℕ). get_or (set xs n x) k nothing) i ∙ get_or-set_same xs n x nothing (omega arith) ∙ e (sym (ap (bits w) i) ∙ m)
-        ∙ ap (λ (k : ℕ). shown (cut_row (graph_of p) (bits w) 32 k)) (sym i)
 
 -- a test of kinds is a test of places
 by_kind : (p : Plan) (of : Bool → ℕ → Bool) (is : Option Kind → Bool) → ((c : ℕ) → of false c ≡ false) → is None ≡ false → ((x : Kind) → of true (kind_class x) ≡ is (Some x)) → (k : ℕ) → of (placed p k) (class_at p k) ≡ is (kind_at p k)

@@ -1,74 +1,28 @@
 -- Gathered sums are the sums of the parts that a frame and an area hold. Assumes nothing.
-use Rattle.std.proofs.Common.{◌≡◌, ℕ, zero, suc, ◌+◌, ◌<◌, ◌≤◌, Bool, true, false, cond, List, get_or, set, sym, refl, ap, ◌∙◌, subst, ap₂, arith, get_or-set_other}
+use Rattle.std.proofs.Common.{ltb, length, is_some, Some, None, Option, MatchOption, IfSome, count_by, ◌≡◌, ℕ, zero, suc, ◌+◌, Bool, true, false, cond, List, ◌∷◌, get_or, set, sym, refl, ap, ◌∙◌, subst, ap₂, arith, get_or-set_other}
+use Rattle.std.specs.List.{range_with_len}
+use Rattle.std.proofs.lemmas.List.Sums.{sum_by-cons}
+use Rattle.std.proofs.lemmas.List.{get_or-map, get_or_past, length-map}
+use denote.Ref.{Bor}
+use borrow.Author.Tests.{ltb-true, ltb-false}
+use Rattle.sheet.specs.declared.row.Row.{Row}
 use Rattle.arithmetic.specs.Ops.{Ops}
-use Rattle.sheet.specs.declared.refusal.Shown.{Shown}
-use Rattle.graphs.specs.Graph.{Set, ◌∈◌, count, Sign}
-use Rattle.graphs.specs.Cuts.{turned}
+use Rattle.graphs.specs.Graph.{Set, count, Sign}
 use Rattle.linear.specs.Elimination.{cell}
-use Rattle.topology.specs.Matrices.{entry}
 use Rattle.topology.specs.Words.{bits}
-use Rattle.tree_stories.specs.Assembly.{through, taken, agree, Parts, entry_of, fed, levelled, right_of, size, with_row}
+use Rattle.tree_stories.specs.Assembly.{through, taken, Parts, entry_of, levelled, right_of, size, with_row}
 use Rattle.assembly.specs.declared.frame.Frame.{Frame}
-use Rattle.assembly.specs.Frames.{cut_at, gathered, scaled, entered, Frames, Holds}
-use Rattle.assembly.proofs.Turns.{turns_alike}
+use Rattle.assembly.specs.Frames.{entered, levels_of, Frames, Holds}
 
 module _ {M : Type 0} (o : Ops M) where
   -- one turn of a gathering
   abbrev pub turn : Set → (ℕ → Sign) → (ℕ → M) → ℕ → M → M
   turn S s x k a = cond (S k) (taken o (s k) (x k) a) a
 
-  abbrev pub turn_scaled : Set → (ℕ → Sign) → (ℕ → M) → M → ℕ → M → M
-  turn_scaled S s x y k a = cond (S k) (taken o (s k) (o.mul (x k) y) a) a
-
   -- turns by equal members, signs and terms are equal
-  turn_same : (b c : Bool) (s r : Sign) (x y a : M) → b ≡ c → (c ≡ true → s ≡ r) → (c ≡ true → x ≡ y) → cond b (taken o s x a) a ≡ cond c (taken o r y a) a
+  pub turn_same : (b c : Bool) (s r : Sign) (x y a : M) → b ≡ c → (c ≡ true → s ≡ r) → (c ≡ true → x ≡ y) → cond b (taken o s x a) a ≡ cond c (taken o r y a) a
   turn_same b true s r x y a e f h = ap (λ b. cond b (taken o s x a) a) e ∙ ap (λ s. taken o s x a) (f refl) ∙ ap (λ x. taken o r x a) (h refl)
   turn_same b false s r x y a e f h = ap (λ b. cond b (taken o s x a) a) e
-
-  pub gathered-same :
-      (S R : Set) (s r : ℕ → Sign) (x y : ℕ → M) (a : M) → S ≡ R → ((k : ℕ) → k < 32 → k ∈ R → s k ≡ r k) → ((k : ℕ) → k < 32 → k ∈ R → x k ≡ y k) →
-      gathered o S s x a ≡ through (turn R r y) 32 a
-  unfolding gathered
-  gathered-same S R s r x y a e f h =
-      turns_alike (turn S s x) (turn R r y) 32 a (λ k v l. turn_same (S k) (R k) (s k) (r k) (x k) (y k) v (ap (λ S. S k) e) (f k l) (h k l))
-
-  pub scaled-same :
-      (S R : Set) (s r : ℕ → Sign) (x y : ℕ → M) (z t : M) (a : M) → S ≡ R → ((k : ℕ) → k < 32 → k ∈ R → s k ≡ r k) → ((k : ℕ) → k < 32 → k ∈ R → x k ≡ y k) → z ≡ t →
-      scaled o S s x z a ≡ through (turn_scaled R r y t) 32 a
-  unfolding scaled
-  scaled-same S R s r x y z t a e f h q =
-      turns_alike (turn_scaled S s x z) (turn_scaled R r y t) 32 a
-      (λ k v l. turn_same (S k) (R k) (s k) (r k) (o.mul (x k) z) (o.mul (y k) t) v (ap (λ S. S k) e) (f k l) (λ i. ap (λ x. o.mul x z) (h k l i) ∙ ap (o.mul (y k)) q))
-
--- the sums of the parts, gathered
-module _ {M : Type 0} (o : Ops M) (c : Parts M) (f : Frame) (w : List M) (fr : Frames c f) (holds : Holds o c w) where
-  pub entry-gathered :
-      (t r : ℕ) (row : Shown) → t ∈ c.tree → r ∈ c.tree → ((k : ℕ) → entry row k ≡ agree (entry (cut_at f t) k) (entry (cut_at f r) k)) →
-      gathered o (bits f.passive) (entry row) (λ k. get_or w (0 + k) o.nought) o.nought ≡ entry_of o c t r
-  unfolding entry_of
-  entry-gathered t r row mt mr e =
-      gathered-same o (bits f.passive) c.passive (entry row) (λ k. agree (c.row t k) (c.row r k)) (λ k. get_or w (0 + k) o.nought) c.conductance o.nought fr.passive
-      (λ k l m. e k ∙ ap₂ agree (fr.rows t k mt l) (fr.rows r k mr l))
-      (λ k l m. ap (λ (j : ℕ). get_or w j o.nought) (let s : 0 + k ≡ k = omega arith in s) ∙ holds.conductance k l m)
-
-  pub feeds-gathered :
-      (t : ℕ) (row : Shown) → t ∈ c.tree → ((k : ℕ) → entry row k ≡ turned (entry (cut_at f t) k)) →
-      gathered o (bits f.feeding) (entry row) (λ k. get_or w (32 + k) o.nought) o.nought ≡ fed o c t
-  unfolding fed
-  feeds-gathered t row mt e =
-      gathered-same o (bits f.feeding) c.feeding (entry row) (λ k. turned (c.row t k)) (λ k. get_or w (32 + k) o.nought) c.feed o.nought fr.feeding
-      (λ k l m. e k ∙ ap turned (fr.rows t k mt l))
-      (λ k l m. holds.feed k l m)
-
-  pub level-gathered :
-      (t v : ℕ) (row both : Shown) (y a : M) → t ∈ c.tree → v ∈ c.tree → ((k : ℕ) → entry both k ≡ agree (entry (cut_at f t) k) (entry (cut_at f v) k)) → ((k : ℕ) → entry row k ≡ turned (entry both k)) → y ≡ c.level v →
-      scaled o (bits f.passive) (entry row) (λ k. get_or w k o.nought) y a ≡ levelled o c t v a
-  unfolding levelled
-  level-gathered t v row both y a mt mv e d q =
-      scaled-same o (bits f.passive) c.passive (entry row) (λ k. turned (agree (c.row t k) (c.row v k))) (λ k. get_or w k o.nought) c.conductance y (c.level v) a fr.passive
-      (λ k l m. d k ∙ ap turned (e k ∙ ap₂ agree (fr.rows t k mt l) (fr.rows v k mv l)))
-      (λ k l m. holds.conductance k l m)
-      q
 
 -- one turn of the right side
 abbrev pub right_turn : {M : Type 0} → Ops M → Parts M → ℕ → ℕ → M → M
@@ -112,21 +66,25 @@ holds_rows o c zero w h = h
 holds_rows o c (suc n) w h = holds_row_if o c n (c.unknown n) _ (holds_rows o c n w h)
 
 -- places among the members of a set
-pub advanced : (S : Set) (k n r : ℕ) → n ≡ count S k → r ≡ cond (S k) (n + 1) n → r ≡ count S (k + 1)
+count_more : (S : Set) (k : ℕ) → count S (k + 1) ≡ count S k + cond (S k) 1 0
 unfolding count
-advanced S k n r e i = i ∙ go (S k) ∙ ap (count S) (let s : suc k ≡ k + 1 = omega arith in s)
+count_more S k = ap (count S) (let s : k + 1 ≡ suc k = omega arith in s) ∙ go (S k) (count S k)
   where
-    go : (b : Bool) → cond b (n + 1) n ≡ cond b (suc (count S k)) (count S k)
-    go true = omega (arith, e)
-    go false = e
+    go : (b : Bool) (n : ℕ) → cond b (suc n) n ≡ n + cond b 1 0
+    go true n = omega arith
+    go false n = omega arith
 
-pub advanced_le : (b : Bool) (n k r : ℕ) → n ≤ k → r ≡ cond b (n + 1) n → r ≤ k + 1
-advanced_le true n k r l e = omega arith
-advanced_le false n k r l e = omega arith
+count_by_cons : (S : Set) (k : ℕ) (ks : List ℕ) → count_by S (k ∷ ks) ≡ cond (S k) 1 0 + count_by S ks
+count_by_cons S k ks = sum_by-cons (λ k. cond (S k) 1 0) k ks
 
-pub none-counted : (S : Set) → 0 ≡ count S 0
+counted-from : (S : Set) (k n : ℕ) → count S k + count_by S (range_with_len k n) ≡ count S (k + n)
+counted-from S k zero = omega (arith, ap (count S) (let e : k ≡ k + 0 = omega arith in e))
+counted-from S k (suc n) =
+    omega (arith, count_more S k, counted-from S (k + 1) n, ap (count S) (let e : k + 1 + n ≡ k + suc n = omega arith in e), count_by_cons S k (range_with_len (k + 1) n))
+
+pub counted : (S : Set) (n : ℕ) → count_by S (range_with_len 0 n) ≡ count S n
 unfolding count
-none-counted S = refl
+counted S n = omega (arith, counted-from S 0 n, ap (count S) (let e : 0 + n ≡ n = omega arith in e))
 
 -- the same of code that holds such a list
 module _ {M : Type 0} (o : Ops M) (c : Parts M) where
@@ -141,20 +99,40 @@ module _ {M : Type 0} (o : Ops M) (c : Parts M) where
   entered-kept t w v h e = entries-kept t 32 w v h e
 
   module _ (f : Frame) (fr : Frames c f) where
-    -- the entry stands at the places of its unknowns
-    pub entry-at :
-        (t r row column : ℕ) (w : List M) → row ≡ count c.unknown t → column ≡ count (bits f.unknown) r →
-        cond (c.unknown r) (set w (cell row column) (entry_of o c t r)) w ≡ entry_turn o c t r w
-    entry-at t r row column w e d =
-        ap (λ (j : ℕ). cond (c.unknown r) (set w (cell j column) (entry_of o c t r)) w) e
-        ∙ ap (λ (j : ℕ). cond (c.unknown r) (set w (cell (count c.unknown t) j) (entry_of o c t r)) w) (d ∙ ap (λ S. count S r) fr.unknown)
+    -- places among the unknowns
+    pub place_is : (k n : ℕ) → n ≡ count_by (bits f.unknown) (range_with_len 0 k) → n ≡ count c.unknown k
+    place_is k n e = e ∙ counted (bits f.unknown) k ∙ ap (λ S. count S k) fr.unknown
+
+    -- an entry stands at the places of its unknowns
+    pub entry_written :
+        (t r : ℕ) (w v : List M) (x : M) (row column place : ℕ) → c.unknown r ≡ true →
+        row ≡ count_by (bits f.unknown) (range_with_len 0 t) → column ≡ count_by (bits f.unknown) (range_with_len 0 r) →
+        x ≡ entry_of o c t r → place ≡ cell row column → v ≡ set w place x → v ≡ entry_turn o c t r w
+    entry_written t r w v x row column place m i j d p q =
+        q ∙ ap (set w place) d
+        ∙ ap (λ (k : ℕ). set w k (entry_of o c t r)) (p ∙ ap₂ (λ (a b : ℕ). cell a b) (place_is t row i) (place_is r column j))
+        ∙ sym (ap (λ b. cond b (set w (cell (count c.unknown t) (count c.unknown r)) (entry_of o c t r)) w) m)
 
     -- a row is its entries and its right side
     pub row_written :
-        (t : ℕ) (w u v : List M) (x : M) (row column place : ℕ) → c.unknown t ≡ true → u ≡ entered o c t w → row ≡ count c.unknown t → column ≡ count (bits f.unknown) 32 → x ≡ right_of o c t →
-        place ≡ cell row column → v ≡ set u place x → v ≡ cond (c.unknown t) (with_row o c t w) w
+        (t : ℕ) (w u v : List M) (x : M) (row column place : ℕ) → c.unknown t ≡ true → u ≡ entered o c t w →
+        row ≡ count_by (bits f.unknown) (range_with_len 0 t) → column ≡ count_by (bits f.unknown) (range_with_len 0 32) →
+        x ≡ right_of o c t → place ≡ cell row column → v ≡ set u place x → v ≡ row_turn o c t w
     unfolding with_row entered
     row_written t w u v x row column place m e i j d p q =
         q ∙ ap (λ u. set u place x) e ∙ ap (set (entered o c t w) place) d
-        ∙ ap (λ (k : ℕ). set (entered o c t w) k (right_of o c t)) (p ∙ ap₂ (λ (a b : ℕ). cell a b) i (j ∙ ap (λ S. count S 32) fr.unknown))
+        ∙ ap (λ (k : ℕ). set (entered o c t w) k (right_of o c t)) (p ∙ ap₂ (λ (a b : ℕ). cell a b) (place_is t row i) (place_is 32 column j))
         ∙ sym (ap (λ b. cond b (with_row o c t w) w) m)
+
+-- the level of a row that is looked up
+pub level_read :
+    {V M : Type 0} (o : Ops M) (mean : V → M) (rows : List (Row V)) (v : ℕ) (found : Option (Bor (Row V))) (y z : V) → is_some found ≡ ltb v (length rows) → IfSome found (λ r. r.now ≡ get_or rows v r.now) →
+    MatchOption found (y ≡ z) (λ r. y ≡ r.now.value) → mean z ≡ o.nought → mean y ≡ levels_of o mean rows v
+unfolding levels_of
+level_read o mean rows v None y z e i q n =
+    let long = length-map rows (λ r. mean r.value) in
+    let past = ltb-false v (length rows) (sym e) in
+    ap mean q ∙ n ∙ sym (get_or_past _ v o.nought (omega arith))
+level_read o mean rows v (Some r) y z e i q n =
+    let lt = ltb-true v (length rows) (sym e) in
+    ap mean q ∙ ap (λ (r : Row _). mean r.value) i ∙ sym (get_or-map (λ r. mean r.value) rows v r.now o.nought lt)

@@ -3,7 +3,6 @@
 -- nothing         a row without members
 -- cut_at f t      the row that a frame has for the tree branch t
 -- gathered        the values x k of the members k of S, each taken by its sign, to a, lower numbers first
--- scaled          the same with x k × y
 -- entered         the row of the unknown t without its right side
 -- system_of       all rows, lower unknowns first
 -- Frames c f      the frame f has the sets and cut rows of the parts c
@@ -11,6 +10,7 @@
 -- Holds o c w     the area w has each conductance at k and each feed at 32 + k
 -- levels_of       the values of rows, by meaning; zero past the last
 -- Levels c value  they are the levels of the fixed branches
+-- Sets            frame, area and rows have the parts c
 use Rattle.std.specs.Prelude.{◌≡◌, ℕ, ◌+◌, ◌<◌, cond, not, ◌&&◌, ◌||◌, List, map, slice_index_or, slice_set}
 use Rattle.arithmetic.specs.Ops.{Ops}
 use Rattle.sheet.specs.declared.plan.Plan.{Plan}
@@ -35,9 +35,6 @@ cut_at f t = slice_index_or f.cuts t nothing
 
 unfoldable pub gathered : {M : Type 0} → Ops M → Set → (ℕ → Sign) → (ℕ → M) → M → M
 gathered o S s x a = through (λ k a. cond (S k) (taken o (s k) (x k) a) a) 32 a
-
-unfoldable pub scaled : {M : Type 0} → Ops M → Set → (ℕ → Sign) → (ℕ → M) → M → M → M
-scaled o S s x y a = through (λ k a. cond (S k) (taken o (s k) (o.mul (x k) y) a) a) 32 a
 
 unfoldable pub entered : {M : Type 0} → Ops M → Parts M → ℕ → List M → List M
 entered o c t w = through (λ r w. cond (c.unknown r) (slice_set w (cell (count c.unknown t) (count c.unknown r)) (entry_of o c t r)) w) 32 w
@@ -75,3 +72,8 @@ levels_of o mean rows v = slice_index_or (map (λ (r : Row _). mean r.value) row
 
 abbrev pub Levels : {M : Type 0} → Parts M → (ℕ → M) → Type 0
 Levels c value = (v : ℕ) → v < 32 → v ∈ c.fixed → value v ≡ c.level v
+
+pub record Sets {V M : Type 0} (o : Ops M) (mean : V → M) (c : Parts M) (f : Frame) (area : List V) (rows : List (Row V)) : Type 0 where
+  pub frames : Frames c f
+  pub holds : Holds o c (map mean area)
+  pub levels : Levels c (levels_of o mean rows)

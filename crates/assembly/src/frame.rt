@@ -8,7 +8,14 @@ ghost use Rattle.topology.specs.Rows.{shown};
 ghost use Rattle.topology.specs.Words.{bits};
 
 use sheet::{Plan, Shown};
+use std::array::from_fn;
 use topology::{cut_of_branch, has, less, up_to};
+
+// The row of no branch.
+const NO_MEMBER: Shown = Shown {
+    members: 0,
+    against: 0,
+};
 
 #[derive(Clone, Copy)]
 pub struct Frame {
@@ -31,10 +38,7 @@ fn cut_if(plan: &Plan, tree: u32, t: u32) -> Shown
     if has(tree, t) {
         cut_of_branch(plan, tree, t)
     } else {
-        Shown {
-            members: 0,
-            against: 0,
-        }
+        NO_MEMBER
     }
 }
 
@@ -42,14 +46,7 @@ fn cut_if(plan: &Plan, tree: u32, t: u32) -> Shown
 fn cut_rows(plan: &Plan, tree: u32) -> [Shown; 32]
     ensures { (t : ℕ) → t < 32 → t ∈ bits tree → slice_index_or result t nothing ≡ shown (cut_row (graph_of plan.now) (bits tree) 32 t) }
 {
-    let mut cuts = [Shown {
-        members: 0,
-        against: 0,
-    }; 32];
-    for t in 0..32 {
-        cuts[t as usize] = cut_if(plan, tree, t);
-    }
-    cuts
+    from_fn(|t| cut_if(plan, tree, t as u32))
 }
 
 impl Frame {
@@ -76,12 +73,6 @@ impl Frame {
     pub fn cut(&self, t: u32) -> Shown
         ensures { result ≡ cut_at self.now t }
     {
-        match self.cuts.get(t as usize) {
-            Some(row) => *row,
-            None => Shown {
-                members: 0,
-                against: 0,
-            },
-        }
+        self.cuts.get(t as usize).copied().unwrap_or(NO_MEMBER)
     }
 }

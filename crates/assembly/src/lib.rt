@@ -8,9 +8,10 @@ mod figures;
 mod frame;
 mod gathering;
 mod rows;
+mod setting;
 mod system;
 
 pub use area::{get, put};
-pub use figures::{branch_currents, branch_voltages};
 pub use frame::Frame;
+pub use setting::Setting;
 pub use system::assemble;

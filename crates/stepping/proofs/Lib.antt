@@ -1,5 +1,6 @@
 pub mod Companions
 pub mod Rows
+pub mod Clearing
 pub mod Working
 pub mod Settling
 pub mod Stepping

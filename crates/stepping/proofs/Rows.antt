@@ -1,7 +1,8 @@
 -- Rows renewed place by place, and results asked one by one. Assumes nothing.
-use Rattle.std.proofs.Common.{◌≡◌, ℕ, suc, ◌+◌, ◌<◌, Bool, true, false, cond, not, ◌&&◌, ◌||◌, List, map, length, get_or, set, sym, refl, ap, ◌∙◌, ap₂, arith, get_or-set_other}
+use Rattle.std.proofs.Common.{◌≡◌, ℕ, zero, suc, ◌+◌, ◌<◌, Bool, true, false, cond, not, ◌&&◌, ◌||◌, List, map, length, get_or, set, sym, refl, ap, ◌∙◌, ap₂, arith, get_or-set_other}
 use Rattle.std.proofs.lemmas.List.{map-set, get_or-map, set-get_or}
 use Rattle.std.proofs.lemmas.Bool.{both_ways}
+use Rattle.std.specs.List.{list_any, range_with_len}
 use Rattle.arithmetic.specs.Ops.{Ops}
 use Rattle.sheet.specs.declared.plan.Plan.{Plan}
 use Rattle.sheet.specs.declared.row.Row.{Row}
@@ -12,13 +13,31 @@ use Rattle.tree_stories.specs.Networks.{any}
 use Rattle.tree_stories.specs.Steps.{row_at, renewed}
 use Rattle.stepping.specs.Steps.{unsound_at, renewed_at, given, Others}
 
-pub none-asked : (S : Set) → false ≡ any S 0
+-- asked of the numbers below n, from the lowest up or from the highest down
+any_more : (S : Set) (k : ℕ) → any S (k + 1) ≡ (S k || any S k)
 unfolding any
-none-asked S = refl
+any_more S k = ap (any S) (let s : k + 1 ≡ suc k = omega arith in s)
 
-pub one-asked : (S : Set) (k : ℕ) (before b next : Bool) → before ≡ any S k → b ≡ S k → next ≡ (b || before) → next ≡ any S (k + 1)
+or_last : (a b c : Bool) → (a || (b || c)) ≡ ((b || a) || c)
+or_last true true c = refl
+or_last true false c = refl
+or_last false true c = refl
+or_last false false c = refl
+
+asked-from : (S : Set) (k n : ℕ) → (any S k || list_any S (range_with_len k n)) ≡ any S (k + n)
+asked-from S k zero = or_false (any S k) ∙ ap (any S) (let e : k ≡ k + 0 = omega arith in e)
+  where
+    or_false : (b : Bool) → (b || false) ≡ b
+    or_false true = refl
+    or_false false = refl
+asked-from S k (suc n) =
+    or_last (any S k) (S k) (list_any S (range_with_len (k + 1) n))
+    ∙ ap (λ (b : Bool). b || list_any S (range_with_len (k + 1) n)) (sym (any_more S k))
+    ∙ asked-from S (k + 1) n ∙ ap (any S) (let e : k + 1 + n ≡ k + suc n = omega arith in e)
+
+pub any_listed : (S : Set) (n : ℕ) → list_any S (range_with_len 0 n) ≡ any S n
 unfolding any
-one-asked S k before b next e i n = n ∙ ap₂ (λ (x y : Bool). x || y) i e ∙ ap (any S) (let s : suc k ≡ k + 1 = omega arith in s)
+any_listed S n = asked-from S 0 n ∙ ap (any S) (let e : 0 + n ≡ n = omega arith in e)
 
 -- what was given stays
 pub gives_same : {V : Type 0} (rows rows' : List (Row V)) (k : ℕ) (z : Row V) (i u : V) → rows' ≡ set rows k (renewed (get_or rows k z) i u) → k < length rows → map given rows' ≡ map given rows

@@ -1,5 +1,5 @@
 -- What the area holds from its clearing to the solved system, and the figures from it. Assumes nothing.
-use Rattle.std.proofs.Common.{◌≡◌, ℕ, zero, suc, ◌<◌, Bool, true, false, not, ◌&&◌, ◌||◌, List, [], ◌∷◌, map, length, replicate, is_some, Some, None, Ok, Err, Option, Result, sym, refl, ap, ◌∙◌, subst, ap₂, arith}
+use Rattle.std.proofs.Common.{ok_or, ◌≡◌, ℕ, zero, suc, ◌<◌, Bool, true, false, not, ◌&&◌, ◌||◌, List, [], ◌∷◌, map, length, replicate, is_some, Some, None, Ok, Err, Option, Result, sym, refl, ap, ◌∙◌, subst, ap₂, arith}
 use Rattle.std.proofs.lemmas.List.{get_or-map}
 use Rattle.std.proofs.lemmas.Bool.{and_parts, both_ways}
 use Rattle.arithmetic.specs.Ops.{Ops}
@@ -25,13 +25,13 @@ use Rattle.topology.proofs.Summing.{entry-shown}
 use Rattle.topology.proofs.Theory.{tree_below}
 use Rattle.tree_stories.specs.Assembly.{through, Parts, size, blank_area, with_companions, assembled}
 use Rattle.tree_stories.specs.Networks.{kind_at, is_voltage, is_current, is_passive}
-use Rattle.tree_stories.specs.Steps.{row_at, parts_of, solving, figure_of, voltage_of, step_parts}
+use Rattle.tree_stories.specs.Steps.{row_at, parts_of, solving, figure_of, voltage_of, current_of, step_parts}
 use Rattle.tree_stories.proofs.Areas.{companions_conductance, companions_feed, solving-conductance, solving-feed, assembled_long}
 use Rattle.tree_stories.proofs.Networks.{placed_kind}
 use Rattle.tree_stories.proofs.Systems.{step_few}
 use Rattle.tree_stories.proofs.Trees.{proper_voltage}
 use Rattle.assembly.specs.declared.frame.Frame.{Frame}
-use Rattle.assembly.specs.Figures.{all, found, Filled}
+use Rattle.assembly.specs.Figures.{all, in_use, found, Filled}
 use Rattle.assembly.specs.Frames.{Frames, FrameOf, Holds, Levels, levels_of, system_of}
 use Rattle.stepping.specs.Steps.{companion_turn, Worked}
 
@@ -147,6 +147,21 @@ module _ {V M : Type 0} (o : Ops M) (mean : V → M) (p : Plan) (rows : List (Ro
   pub voltages_are : (n : ℕ) (a : List M) (voltages : List M) → n ≡ size parts → a ≡ (solving o parts).left → Filled o all (voltage_of o parts (found o a n)) 32 voltages → Filled o all (voltage_of o parts (figure_of o parts)) 32 voltages
   voltages_are n a voltages e d f = subst (λ x. Filled o all (voltage_of o parts x) 32 voltages) (ap₂ (λ a (n : ℕ). found o a n) d e) f
 
+  pub record Figured (currents voltages : List M) : Type 0 where
+    pub ok : true ≡ (solving o parts).ok
+    pub is : Filled o (in_use parts) (current_of o parts (figure_of o parts)) 32 currents
+    pub us : Filled o all (voltage_of o parts (figure_of o parts)) 32 voltages
+
+  -- and the currents
+  pub figured :
+      (f : Frame) → FrameOf p w f → (r : Option ℕ) (n : ℕ) (a voltages currents : List M) → Worked o h sheet r a → r ≡ Some n →
+      ((c : Parts M) → Frames c f → Levels c (levels_of o mean rows) → Filled o all (voltage_of o c (found o a n)) 32 voltages) →
+      ((c : Parts M) (x : ℕ → M) → Frames c f → Holds o c a → Filled o all (voltage_of o c x) 32 voltages → Filled o (in_use c) (current_of o c x) 32 currents) → Figured currents voltages
+  figured f of r n a voltages currents worked e us is =
+      let fr = frames f of in
+      let v = voltages_are n a voltages (worked.unknowns n e) worked.left (us parts fr levels) in
+      record { ok = sym (ap is_some e) ∙ worked.ok; is = is parts (figure_of o parts) fr (holds_solved a worked.left) v; us = v }
+
   pub is_ok : (u : Unit {0}) → Ok u ≡ answered true (solving o parts).ok → true ≡ (solving o parts).ok
   is_ok u e = go (solving o parts).ok e
     where
@@ -164,6 +179,11 @@ module _ {V M : Type 0} (o : Ops M) (mean : V → M) (p : Plan) (rows : List (Ro
 -- none is not some
 none_some : {X A : Type 0} (x : X) → ◌≡◌ {A = Option X} None (Some x) → A
 none_some x e = let z : ◌≡◌ {A = ℕ} 0 1 = cc in absurd (omega arith)
+
+-- a number that was not refused
+pub ok_some : {X E : Type 0} (r : Option X) (e : E) (x : X) → ok_or r e ≡ Ok x → r ≡ Some x
+ok_some None e x i = let z : ◌≡◌ {A = ℕ} 0 1 = cc in absurd (omega arith)
+ok_some (Some y) e x i = cc
 
 some_is : {X : Type 0} (x y : X) → Some x ≡ Some y → x ≡ y
 some_is x y e = cc

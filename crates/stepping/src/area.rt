@@ -7,8 +7,5 @@ use arithmetic::Arithmetic;
 pub(crate) fn clear<N: Arithmetic>(area: &mut [N])
     ensures { area.new ≡ replicate (length area.old) N.nil }
 {
-    let zero = N::zero();
-    for place in area.iter_mut() {
-        *place = zero;
-    }
+    area.fill_with(|| N::zero());
 }

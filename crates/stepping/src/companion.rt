@@ -51,7 +51,8 @@ fn backward_euler<N: Arithmetic>(kind: Kind, row: Row<N>, h: N) -> Companion<N>
 
 // The companion of the branch k into the area, conductance at k and feed at 32 + k; a voltage source has none.
 fn store_companion<N: Arithmetic>(plan: &Plan, rows: &[Row<N>], h: N, area: &mut [N], k: u32)
-    requires { (k < 32) × (length rows.now ≡ 32) }
+    requires place { k < 32 }
+    requires rows { length rows.now ≡ 32 }
     ensures { map N.mean area.new ≡ companion_turn N.ops plan.now (N.mean h) (row_at N.ops (map (meant_row N.mean) rows.now)) k (map N.mean area.old) }
 {
     match plan.at(k) {

@@ -5,6 +5,7 @@
 mod area;
 mod calls;
 mod companion;
+mod figures;
 mod telling;
 
 pub use calls::step;

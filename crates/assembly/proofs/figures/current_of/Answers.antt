@@ -1,20 +1,28 @@
-use Rattle.std.proofs.Common.{◌+◌, map, get_or, sym, ap, ◌∙◌, arith}
+use Rattle.std.proofs.Common.{◌≡◌, map, get_or, rules, sym, ap, ◌∙◌, arith}
 use Rattle.graphs.specs.Cuts.{turned}
+use Rattle.tree_stories.specs.Steps.{flow_of}
 use Rattle.topology.specs.Matrices.{entry}
-use Rattle.topology.specs.Words.{bits}
+use Rattle.topology.specs.Rows.{sign_of}
 use Rattle.assembly.specs.Frames.{gathered}
 use Rattle.assembly.proofs.Filling.{current_fixed, current-other}
 use Rattle.assembly.proofs.figures.current_of.Goals as goal
 
 pub returns-then-has : goal.returns-then-has
-returns-then-has g c parts x fr h m =
+returns-then-has g c parts x fr h u =
     let o = g.N.Arithmetic.ops in
-    let f = c.args.frame.now in
-    let w = map g.N.Arithmetic.mean c.args.flows.now in
-    c.gather.ensures
-    ∙ ap (λ z. gathered o (bits f.link) (entry c.turn_row.result) (λ k. get_or w (0 + k) o.nought) z) c.zero.ensures.meaning
-    ∙ current_fixed o parts f fr x c.args.k w c.turn_row.result (sym c.has.ensures ∙ c.if-has.true) h
-    (λ j. c.turn_row.ensures j ∙ ap (λ s. turned (entry s j)) c.cut.ensures)
+    let m = g.N.Arithmetic.mean in
+    let k = c.args.k in
+    let row = c.turn_row-row.result in
+    let is_fixed = sym (ap (λ S. S k) fr.fixed) ∙ sym c.has.ensures ∙ c.if-has.true in
+    c.gather.ensures parts.link (λ j. turned (parts.row k j)) (flow_of o parts x) fr.link
+    (λ j s l i called.
+    let is : sign_of s ≡ entry row j = search rules in
+    is ∙ c.turn_row-row.ensures j ∙ ap (λ a. turned (entry a j)) c.cut.ensures ∙ ap turned (fr.rows k j (fr.fixed_in k is_fixed) l))
+    (λ j y l i called.
+    let is : m y ≡ get_or (map m c.args.flows.now) j o.nought = search rules in
+    is ∙ h.each j l (fr.link_in j i))
+    ∙ ap (gathered o parts.link (λ j. turned (parts.row k j)) (flow_of o parts x)) c.zero.ensures.meaning
+    ∙ current_fixed o parts x k is_fixed
 
 pub returns-else-has : goal.returns-else-has
 returns-else-has g c parts x fr h m =

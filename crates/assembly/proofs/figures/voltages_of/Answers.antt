@@ -1,13 +1,6 @@
-use Rattle.std.proofs.Common.{◌≡◌, arith}
-use Rattle.assembly.proofs.Filling.{filled_none, filled_more, filled_all}
+use Rattle.std.proofs.Common.{rules}
+use Rattle.assembly.proofs.Making.{filled_made}
 use Rattle.assembly.proofs.figures.voltages_of.Goals as goal
 
-pub loop-k-init : goal.loop-k-init
-loop-k-init g c parts x fr h = filled_none _ _ _ _ c.zeros-voltages.ensures
-
-pub loop-k-preserved : goal.loop-k-preserved
-loop-k-preserved g c parts x fr h =
-    filled_more _ _ _ c.loop-k.k _ _ _ (c.loop-k.invariant parts x fr h) (omega arith) (λ m. c.voltage_of-voltage.ensures parts x fr h) c.set_at.ensures
-
 pub returns : goal.returns
-returns g c parts x fr h = let end : c.loop-k.k ≡ 32 = omega arith in filled_all _ _ _ _ _ end (c.loop-k.invariant parts x fr h)
+returns g c parts x fr h = filled_made _ _ _ _ g.N.Arithmetic.nil _ _ _ (λ k y q l called. search rules) c.from_fn.ensures.items

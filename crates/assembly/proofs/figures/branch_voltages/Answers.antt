@@ -1,4 +1,0 @@
-use Rattle.assembly.proofs.figures.branch_voltages.Goals as goal
-
-pub returns : goal.returns
-returns g c parts fr levels = c.voltages_of.ensures parts _ fr (c.tree_voltages-tree.ensures parts fr levels)

@@ -1,0 +1,82 @@
+// What a step finds for the branches, asked and written into the rows.
+ghost use Rattle.std.specs.Prelude.{◌≡◌, ◌<◌, map, length, slice_index_or, slice_set};
+ghost use Rattle.std.specs.List.{list_any, range_with_len};
+ghost use Rattle.sheet.specs.Meanings.{meant_row};
+ghost use Rattle.sheet.specs.declared.row.Row.{Row};
+ghost use Rattle.stepping.specs.Steps.{Others, unsound_at, renewed_at, given};
+ghost use Rattle.tree_stories.specs.Assembly.{through};
+ghost use Rattle.tree_stories.specs.Steps.{renewed};
+
+use arithmetic::Arithmetic;
+use assembly::get;
+use sheet::{Plan, Row};
+use topology::is_placed;
+
+// A row with a new current and voltage.
+fn renew<N: Copy>(rows: &mut [Row<N>], k: usize, current: N, voltage: N)
+    requires { k < length rows.old }
+    ensures { (d : Row N) → rows.new ≡ slice_set rows.old k (renewed (slice_index_or rows.old k d) current voltage) }
+{
+    let row = rows[k];
+    rows[k] = Row {
+        current,
+        voltage,
+        ..row
+    };
+}
+
+// The currents and voltages of all branches, by place.
+#[derive(Clone, Copy)]
+pub(crate) struct Figures<'a, N> {
+    pub currents: &'a [N],
+    pub voltages: &'a [N],
+}
+
+impl<'a, N: Arithmetic> Figures<'a, N> {
+    // The branch k is placed and its current or its voltage is unsound.
+    fn is_unsound(&self, plan: &Plan, k: u32) -> bool
+        ensures { result ≡ unsound_at N.ops plan.now (map N.mean self.now.currents.now) (map N.mean self.now.voltages.now) k }
+    {
+        if !is_placed(plan, k) {
+            return false;
+        }
+        let current = get(self.currents, k as usize);
+        let voltage = get(self.voltages, k as usize);
+        !(current.is_sound() & voltage.is_sound())
+    }
+
+    // Some placed branch has an unsound current or voltage.
+    pub(crate) fn are_unsound(&self, plan: &Plan) -> bool
+        ensures { result ≡ list_any (unsound_at N.ops plan.now (map N.mean self.now.currents.now) (map N.mean self.now.voltages.now)) (range_with_len 0 32) }
+    {
+        (0..32).any(|k| self.is_unsound(plan, k))
+    }
+
+    // The row of the branch k with its new figures, if it is placed.
+    fn renew_row(&self, plan: &Plan, rows: &mut [Row<N>], k: u32)
+        requires place { k < 32 }
+        requires rows { length rows.old ≡ 32 }
+        ensures rows { map (meant_row N.mean) rows.new ≡ renewed_at N.ops plan.now (map N.mean self.now.currents.now) (map N.mean self.now.voltages.now) k (map (meant_row N.mean) rows.old) }
+        ensures gives { map given rows.new ≡ map given rows.old }
+        ensures others { Others plan.now rows.old rows.new }
+    {
+        if !is_placed(plan, k) {
+            return;
+        }
+        let current = get(self.currents, k as usize);
+        let voltage = get(self.voltages, k as usize);
+        renew(rows, k as usize, current, voltage);
+    }
+
+    // The rows of all placed branches with their new figures.
+    pub(crate) fn renew_rows(&self, plan: &Plan, rows: &mut [Row<N>])
+        requires { length rows.old ≡ 32 }
+        ensures rows { map (meant_row N.mean) rows.new ≡ through (renewed_at N.ops plan.now (map N.mean self.now.currents.now) (map N.mean self.now.voltages.now)) 32 (map (meant_row N.mean) rows.old) }
+        ensures gives { map given rows.new ≡ map given rows.old }
+        ensures others { Others plan.now rows.old rows.new }
+    {
+        for k in 0..32 {
+            self.renew_row(plan, rows, k);
+        }
+    }
+}
