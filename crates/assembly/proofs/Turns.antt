@@ -1,5 +1,5 @@
 -- Invariants of code that runs a loop of turns: what is made so far is what the turns so far make. Assumes nothing.
-use Rattle.std.proofs.Common.{◌≡◌, ℕ, zero, suc, ◌+◌, ◌<◌, refl, ap, ◌∙◌, arith}
+use Rattle.std.proofs.Common.{◌≡◌, ℕ, suc, ◌+◌, refl, ap, ◌∙◌, arith}
 use Rattle.tree_stories.specs.Assembly.{through}
 
 pub none_made : {W : Type 0} (f : ℕ → W → W) (w : W) → w ≡ through f 0 w
@@ -12,9 +12,3 @@ one_more f k w now next e n = n ∙ ap (f k) e ∙ ap (λ (j : ℕ). through f j
 
 pub all_made : {W : Type 0} (f : ℕ → W → W) (k n : ℕ) (w now : W) → k ≡ n → now ≡ through f k w → now ≡ through f n w
 all_made f k n w now e i = i ∙ ap (λ (j : ℕ). through f j w) e
-
--- turns that do the same below n
-pub turns_alike : {W : Type 0} (f g : ℕ → W → W) (n : ℕ) (w : W) → ((k : ℕ) (v : W) → k < n → f k v ≡ g k v) → through f n w ≡ through g n w
-unfolding through
-turns_alike f g zero w e = refl
-turns_alike f g (suc n) w e = e n _ (omega arith) ∙ ap (g n) (turns_alike f g n w (λ k v l. e k v (omega arith)))

@@ -5,13 +5,13 @@ ghost use Rattle.assembly.specs.Frames.{Frames, Holds, Levels, levels_of};
 ghost use Rattle.tree_stories.specs.Assembly.{Parts};
 ghost use Rattle.tree_stories.specs.Steps.{tree_voltage, voltage_of, flow_of, current_of};
 
-use crate::area::get;
 use crate::frame::Frame;
 use crate::gathering::gather;
 use crate::rows::turn_row;
 use crate::setting::Setting;
-use crate::system::{place, place_among};
+use crate::system::place_among;
 use arithmetic::Arithmetic;
+use linear::{get, place};
 use std::array::from_fn;
 use topology::{has, sign_at};
 

@@ -11,12 +11,6 @@ use sheet::{Plan, Shown};
 use std::array::from_fn;
 use topology::{cut_of_branch, has, less, up_to};
 
-// The row of no branch.
-const NO_MEMBER: Shown = Shown {
-    members: 0,
-    against: 0,
-};
-
 #[derive(Clone, Copy)]
 pub struct Frame {
     // Resistors, inductors and capacitors; these and current sources; voltage sources.
@@ -38,7 +32,7 @@ fn cut_if(plan: &Plan, tree: u32, t: u32) -> Shown
     if has(tree, t) {
         cut_of_branch(plan, tree, t)
     } else {
-        NO_MEMBER
+        Shown::default()
     }
 }
 
@@ -73,6 +67,6 @@ impl Frame {
     pub fn cut(&self, t: u32) -> Shown
         ensures { result ≡ cut_at self.now t }
     {
-        self.cuts.get(t as usize).copied().unwrap_or(NO_MEMBER)
+        self.cuts.get(t as usize).copied().unwrap_or_default()
     }
 }

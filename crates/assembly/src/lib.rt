@@ -3,7 +3,6 @@
 // sums, specs/Frames.antt what the code reads them from.
 #![tactic(auto)]
 
-mod area;
 mod figures;
 mod frame;
 mod gathering;
@@ -11,7 +10,7 @@ mod rows;
 mod setting;
 mod system;
 
-pub use area::{get, put};
 pub use frame::Frame;
+pub use linear::{get, put};
 pub use setting::Setting;
 pub use system::assemble;

@@ -4,11 +4,11 @@ ghost use Rattle.assembly.specs.Frames.{Sets, levels_of};
 ghost use Rattle.graphs.specs.Graph.{◌∈◌};
 ghost use Rattle.tree_stories.specs.Assembly.{Parts, entry_of, fed, levelled, right_of};
 
-use crate::area::get;
 use crate::frame::Frame;
 use crate::gathering::gather;
 use crate::rows::{agreement, turn_row};
 use arithmetic::Arithmetic;
+use linear::get;
 use sheet::Row;
 use topology::{has, sign_at};
 

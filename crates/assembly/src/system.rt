@@ -8,19 +8,12 @@ ghost use Rattle.linear.specs.Elimination.{cell};
 ghost use Rattle.tree_stories.specs.Assembly.{Parts, entry_of, with_row};
 ghost use Rattle.topology.specs.Words.{bits};
 
-use crate::area::put;
 use crate::frame::Frame;
 use crate::setting::Setting;
 use arithmetic::Arithmetic;
+use linear::{place, put};
 use sheet::Row;
 use topology::has;
-
-// Where the entry of a row in a column stands; the right side of each row stands in the column after the last.
-pub(crate) fn place(row: u32, column: u32) -> usize
-    ensures { result ≡ cell row column }
-{
-    64 + row as usize * 16 + column as usize
-}
 
 // How many members of a word are below k: the place of k among them.
 pub(crate) fn place_among(word: u32, k: u32) -> u32

@@ -1,6 +1,5 @@
 -- A step whose tree is known: 14, 15 or the new rows. Assumes nothing.
 use Rattle.std.proofs.Common.{◌≡◌, ℕ, zero, suc, ◌<◌, ◌≤◌, Bool, true, false, cond, not, ◌&&◌, ◌||◌, List, [], map, get_or, set, is_some, Some, None, Option, sym, refl, ap, ◌∙◌, ap₂, arith, get_or-set_other}
-use Rattle.std.proofs.lemmas.Bool.{both_ways}
 use Rattle.arithmetic.specs.Ops.{Ops}
 use Rattle.sheet.specs.declared.kind.Kind.{Kind}
 use Rattle.sheet.specs.declared.kind.Kind.TheVariants.{Resistor, Inductor, Capacitor, VoltageSource, CurrentSource}
@@ -26,7 +25,7 @@ any-alike S R zero e = refl
 any-alike S R (suc n) e = ap₂ (λ (a b : Bool). a || b) (e n (omega arith)) (any-alike S R n (λ k l. e k (omega arith)))
 
 used : (f : Option Kind) → is_some f ≡ true → (is_voltage f || (is_passive f || is_current f)) ≡ true
-used None m = absurd (both_ways false refl m)
+used None m = cc
 used (Some Resistor) m = refl
 used (Some Inductor) m = refl
 used (Some Capacitor) m = refl
@@ -101,9 +100,6 @@ module _ {V M : Type 0} (o : Ops M) (mean : V → M) (h : M) (plan : Plan) (rows
   pub no_pivot : false ≡ (solving o (step_parts o h sheet)).ok → refused (record { number = 14; words = [] }) ≡ settled o h sheet
   no_pivot e = λ i. refuse 14 (not (e i)) (refuse 15 (unsound o plan (step_result o h sheet)) (granted (record { plan = plan; rows = renewed_rows o plan (map (meant_row mean) rows) (step_result o h sheet) })))
 
-  not_refused : {A : Type 0} (t : Told) → pass ≡ fail t → A
-  not_refused t e = let z : ◌≡◌ {A = ℕ} 0 1 = cc in absurd (omega arith)
-
   pub settles-granted :
       (rows' : List (Row V)) → true ≡ (solving o (step_parts o h sheet)).ok → unsound o plan (step_result o h sheet) ≡ false →
       map (meant_row mean) rows' ≡ renewed_rows o plan (map (meant_row mean) rows) (step_result o h sheet) → map given rows' ≡ map given rows → Others plan rows rows' → Settles o mean h plan rows pass rows'
@@ -111,4 +107,4 @@ module _ {V M : Type 0} (o : Ops M) (mean : V → M) (h : M) (plan : Plan) (rows
       let is : granted (record { plan = plan; rows = renewed_rows o plan (map (meant_row mean) rows) (step_result o h sheet) }) ≡ settled o h sheet =
       λ i. refuse 14 (not (e i)) (refuse 15 (sym d i) (granted (record { plan = plan; rows = renewed_rows o plan (map (meant_row mean) rows) (step_result o h sheet) })))
       in
-      record { answers = ap verdict_of is; tables = r ∙ ap (λ a. (left sheet a).rows) is; gives = k; others = q; alone = λ t f. not_refused t f }
+      record { answers = ap verdict_of is; tables = r ∙ ap (λ a. (left sheet a).rows) is; gives = k; others = q; alone = λ t f. cc }

@@ -1,5 +1,5 @@
 -- What the area holds from its clearing to the solved system, and the figures from it. Assumes nothing.
-use Rattle.std.proofs.Common.{ok_or, ◌≡◌, ℕ, zero, suc, ◌<◌, Bool, true, false, not, ◌&&◌, ◌||◌, List, [], ◌∷◌, map, length, replicate, is_some, Some, None, Ok, Err, Option, Result, sym, refl, ap, ◌∙◌, subst, ap₂, arith}
+use Rattle.std.proofs.Common.{is_ok, ok_or, ◌≡◌, ℕ, zero, suc, ◌<◌, Bool, true, false, not, ◌&&◌, ◌||◌, List, [], ◌∷◌, map, length, replicate, is_some, Some, None, Ok, Option, Result, sym, refl, ap, ◌∙◌, subst, ap₂, arith}
 use Rattle.std.proofs.lemmas.List.{get_or-map}
 use Rattle.std.proofs.lemmas.Bool.{and_parts, both_ways}
 use Rattle.arithmetic.specs.Ops.{Ops}
@@ -47,11 +47,11 @@ blank_is o mean nil n w z e d =
 
 -- a placed branch that is no voltage source feeds
 feeds : (f : Option Kind) → is_some f ≡ true → is_voltage f ≡ false → (is_passive f || is_current f) ≡ true
-feeds None m v = absurd (both_ways false refl m)
+feeds None m v = cc
 feeds (Some Resistor) m v = refl
 feeds (Some Inductor) m v = refl
 feeds (Some Capacitor) m v = refl
-feeds (Some VoltageSource) m v = absurd (both_ways true v refl)
+feeds (Some VoltageSource) m v = cc
 feeds (Some CurrentSource) m v = refl
 
 module _ {V M : Type 0} (o : Ops M) (mean : V → M) (p : Plan) (rows : List (Row V)) (long : length rows ≡ 32) (w : ℕ) (tree_is : tree_of p ≡ granted w) (h : M) where
@@ -162,35 +162,21 @@ module _ {V M : Type 0} (o : Ops M) (mean : V → M) (p : Plan) (rows : List (Ro
       let v = voltages_are n a voltages (worked.unknowns n e) worked.left (us parts fr levels) in
       record { ok = sym (ap is_some e) ∙ worked.ok; is = is parts (figure_of o parts) fr (holds_solved a worked.left) v; us = v }
 
-  pub is_ok : (u : Unit {0}) → Ok u ≡ answered true (solving o parts).ok → true ≡ (solving o parts).ok
-  is_ok u e = go (solving o parts).ok e
-    where
-      go : (b : Bool) → Ok u ≡ answered true b → true ≡ b
-      go true e = refl
-      go false e = let z : ◌≡◌ {A = ℕ} 0 1 = cc in absurd (omega arith)
+  ok_is : (b : Bool) → is_ok (answered true b) ≡ b
+  ok_is true = refl
+  ok_is false = refl
 
-  pub is_err : (x : Unsolved) → Err x ≡ answered true (solving o parts).ok → false ≡ (solving o parts).ok
-  is_err x e = go (solving o parts).ok e
-    where
-      go : (b : Bool) → Err x ≡ answered true b → false ≡ b
-      go true e = let z : ◌≡◌ {A = ℕ} 0 1 = cc in absurd (omega arith)
-      go false e = refl
-
--- none is not some
-none_some : {X A : Type 0} (x : X) → ◌≡◌ {A = Option X} None (Some x) → A
-none_some x e = let z : ◌≡◌ {A = ℕ} 0 1 = cc in absurd (omega arith)
+  -- the number of unknowns, where the system was solved
+  pub worked :
+      (f : Frame) → FrameOf p w f → (a b c d : List M) (n : ℕ) (r : Result (Unit {0}) Unsolved) →
+      a ≡ blank_area o → b ≡ through (companion_turn o p h (row_at o (map (meant_row mean) rows))) 32 a →
+      ((q : Parts M) → Frames q f → Holds o q b → Levels q (levels_of o mean rows) → c ≡ system_of o q b) → n ≡ count (bits f.unknown) 32 →
+      r ≡ answer o n c → d ≡ leaves o n c → (y : Option ℕ) → is_some y ≡ is_ok r → ((k : ℕ) → y ≡ Some k → n ≡ k) → Worked o h sheet y d
+  worked f is a b c d n r ea eb ec en er ed y some same =
+      let s = solves f is a b c d n r ea eb ec en er ed in
+      record { ok = some ∙ ap is_ok s.verdict ∙ ok_is (solving o parts).ok; unknowns = λ k e. sym (same k e) ∙ s.unknowns; left = s.left }
 
 -- a number that was not refused
 pub ok_some : {X E : Type 0} (r : Option X) (e : E) (x : X) → ok_or r e ≡ Ok x → r ≡ Some x
-ok_some None e x i = let z : ◌≡◌ {A = ℕ} 0 1 = cc in absurd (omega arith)
+ok_some None e x i = cc
 ok_some (Some y) e x i = cc
-
-some_is : {X : Type 0} (x y : X) → Some x ≡ Some y → x ≡ y
-some_is x y e = cc
-
-module _ {M : Type 0} (o : Ops M) (h : M) (s : Sheet M) where
-  pub worked_some : (n : ℕ) (a : List M) → true ≡ (solving o (step_parts o h s)).ok → n ≡ size (step_parts o h s) → a ≡ (solving o (step_parts o h s)).left → Worked o h s (Some n) a
-  worked_some n a ok e l = record { ok = ok; unknowns = λ k d. sym (some_is n k d) ∙ e; left = l }
-
-  pub worked_none : (a : List M) → false ≡ (solving o (step_parts o h s)).ok → a ≡ (solving o (step_parts o h s)).left → Worked o h s None a
-  worked_none a ok l = record { ok = ok; unknowns = λ k d. none_some k d; left = l }

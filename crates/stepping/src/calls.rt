@@ -36,10 +36,8 @@ fn solve_system<N: Arithmetic>(
     clear(area);
     store_companions(plan, rows, h, area);
     let unknowns = assemble(frame, area, rows);
-    match solve(area, unknowns as usize) {
-        Ok(()) => Some(unknowns),
-        Err(_) => None,
-    }
+    solve(area, unknowns as usize).ok()?;
+    Some(unknowns)
 }
 
 // A row table of 32 rows and a work area of at least 304 places.

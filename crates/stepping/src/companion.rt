@@ -7,7 +7,7 @@ ghost use Rattle.tree_stories.specs.Companions.{conductance, feed};
 ghost use Rattle.tree_stories.specs.Steps.{row_at};
 
 use arithmetic::Arithmetic;
-use assembly::put;
+use linear::put;
 use sheet::{Kind, Plan, Row};
 
 #[derive(Clone, Copy)]

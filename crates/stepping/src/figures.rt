@@ -8,7 +8,7 @@ ghost use Rattle.tree_stories.specs.Assembly.{through};
 ghost use Rattle.tree_stories.specs.Steps.{renewed};
 
 use arithmetic::Arithmetic;
-use assembly::get;
+use linear::get;
 use sheet::{Plan, Row};
 use topology::is_placed;
 
