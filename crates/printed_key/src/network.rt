@@ -1,37 +1,39 @@
 // The lines on a circuit's graph: its tree, and the loop and cut rows that go with it.
-use crate::lines::{push_refusal, push_row, push_tree};
-use sheet::Plan;
-use std::alloc::{AllocError, Global};
-use topology::{cut_row, loop_row, tree};
+ghost use Rattle.std.specs.Prelude.{◌≡◌, ℕ, ◌<◌, Option, string_bytes};
+ghost use Rattle.printed_key.specs.Blocks.{network_lines, row_lines};
+ghost use Rattle.printed_key.specs.Text.{Adds, text_of, listed};
+ghost use Rattle.sheet.specs.declared.refusal.Shown.{Shown};
+ghost use Rattle.sheet.specs.Refusals.{Answer, told};
 
-// A line for each link.
-fn push_loops(heap: Global, text: &mut String, plan: &Plan) -> Result<(), AllocError> {
+use crate::words::{Members, Signed};
+use sheet::{Plan, Refusal, Shown};
+use std::alloc::AllocError;
+use topology::{cut_row, loop_row};
+
+// `loop 1 -0 +1 +2` for each place that has a row: the name, the place, and the signed members.
+fn push_rows<F: Fn(u32) -> Result<Option<Shown>, Refusal>>(
+    text: &mut String,
+    name: &str,
+    row_at: F,
+) -> Result<(), AllocError>
+    requires { F.IsAlwaysCallable row_at }
+    ensures { (rows : ℕ → Answer (Option Shown)) → ((k : ℕ) (r : _) → k < 32 → F.post row_at k r → told r ≡ rows k) → Adds result (string_bytes text.old) (string_bytes text.new) (text_of (listed (λ k. row_lines name.now k (rows k)) 32)) }
+{
     for k in 0..32 {
-        if let Ok(Some(row)) = loop_row(plan, k) {
-            push_row(heap, text, "loop", k, row)?;
+        match row_at(k) {
+            Ok(Some(row)) => writeln!(text, "{name} {k}{}", Signed(row))?,
+            Ok(None) => {}
+            Err(_) => {}
         }
     }
     Ok(())
 }
 
-// A line for each tree branch.
-fn push_cuts(heap: Global, text: &mut String, plan: &Plan) -> Result<(), AllocError> {
-    for k in 0..32 {
-        if let Ok(Some(row)) = cut_row(plan, k) {
-            push_row(heap, text, "cut", k, row)?;
-        }
-    }
-    Ok(())
-}
-
-// The tree, its loops and its cuts, or the one refusal in their place.
-pub(crate) fn push_network(heap: Global, text: &mut String, plan: &Plan) -> Result<(), AllocError> {
-    match tree(plan) {
-        Ok(tree) => {
-            push_tree(heap, text, tree)?;
-            push_loops(heap, text, plan)?;
-            push_cuts(heap, text, plan)
-        }
-        Err(refusal) => push_refusal(heap, text, refusal),
-    }
+// `tree 0 2`, a line for each link, and a line for each tree branch.
+pub(crate) fn push_network(text: &mut String, plan: &Plan, tree: u32) -> Result<(), AllocError>
+    ensures { Adds result (string_bytes text.old) (string_bytes text.new) (text_of (network_lines plan.now tree)) }
+{
+    writeln!(text, "tree{}", Members(tree))?;
+    push_rows(text, "loop", |k| loop_row(plan, k))?;
+    push_rows(text, "cut", |k| cut_row(plan, k))
 }

@@ -2,8 +2,8 @@
 use crate::stop::{Stop, Text, expect, readable};
 use crate::stream::Stream;
 use crate::words::Words;
+use printed_key::whole_key;
 use std::alloc::Global;
-use whole_key::printed_key;
 
 // The length in a line of a name and a length.
 fn length_of(line: &[u8], name: &[u8]) -> Option<usize> {
@@ -28,7 +28,7 @@ fn expect_key(stream: &mut Stream, key: &str) -> Result<(), Stop> {
 pub(crate) fn replay_file(heap: Global, stream: &mut Stream, line: &[u8]) -> Result<(), Stop> {
     let length = readable(length_of(line, b"file"))?;
     let cards = readable(stream.block(length))?;
-    let key = printed_key(heap, cards)?;
+    let key = whole_key(heap, cards)?;
     let length = readable(length_of(readable(stream.line())?, b"key"))?;
     expect_key(stream, key.as_str())?;
     let found = key.len();

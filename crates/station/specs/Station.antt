@@ -11,7 +11,7 @@ use Rattle.cards.specs.Reading.{Named, State, cards_read}
 use Rattle.sheet.specs.declared.plan.Plan.{Plan}
 use Rattle.sheet.specs.Refusals.{Answer, granted, refused}
 use Rattle.topology.specs.Trees.{tree_of}
-use Rattle.whole_key.specs.Key.{key_text}
+use Rattle.printed_key.specs.Key.{key_text}
 
 abbrev pub no_memory : ℕ
 no_memory = 18446744073709551615

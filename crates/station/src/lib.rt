@@ -7,10 +7,10 @@ ghost use Rattle.station.specs.Station.{in_front, Keyed, tree_mark, mark_of};
 ghost use Rattle.topology.specs.Trees.{tree_of};
 
 use cards::read_cards;
+use printed_key::{LONGEST, fresh_rows, whole_key};
 use sheet::{Plan, Refusal};
 use std::alloc::Global;
 use topology::tree;
-use whole_key::{LONGEST, fresh_rows, printed_key};
 
 // What is answered for want of memory.
 const NO_MEMORY: usize = usize::MAX;
@@ -30,7 +30,7 @@ fn put_in_front(text: &[u8], buffer: &mut [u8])
 pub extern "C" fn covshurii_key(heap: Global, cards: &[u8], buffer: &mut [u8]) -> usize
     ensures { Keyed cards.now buffer.old result buffer.new }
 {
-    match printed_key(heap, cards) {
+    match whole_key(heap, cards) {
         Ok(text) => {
             put_in_front(text.as_bytes(), buffer);
             text.len()

@@ -3,7 +3,7 @@ use Rattle.std.proofs.lemmas.Bool.{lt-ltb, le-ltb}
 use Rattle.arithmetic.specs.Binary64.{binary64_ops}
 use Rattle.cards.specs.Following.{blank_sheet}
 use Rattle.cards.specs.Reading.{cards_read}
-use Rattle.whole_key.proofs.Stepping.{blank_begun}
+use Rattle.printed_key.proofs.Stepping.{blank_begun}
 use Rattle.station.specs.Station.{state_mark, mark_of}
 use Rattle.station.proofs.covshurii_mark.Goals as goal
 

@@ -1,0 +1,35 @@
+use Rattle.std.proofs.Common.{◌≡◌, ◌++◌, Some, None, Ok, string_bytes, decimal, sym, refl, ap, ◌∙◌, arith}
+use Rattle.sheet.specs.Refusals.{granted, told}
+use Rattle.printed_key.specs.Blocks.{row_lines}
+use Rattle.printed_key.specs.Text.{text_of, listed}
+use Rattle.printed_key.proofs.Adding.{no_lines, more_lines, no_line, word_before, line_added}
+use Rattle.printed_key.proofs.network.push_rows.Goals as goal
+use Rattle.printed_key.proofs.network.push_rows.Goals.{in-Ok-Some+in_ok-writeln-in-Ok-Some, in-Ok-None, in-Err}
+
+pub loop-k-init : goal.loop-k-init
+loop-k-init g c = λ rows h. no_lines _ _
+
+pub loop-k-preserved : goal.loop-k-preserved
+loop-k-preserved g c = λ rows h.
+    let k = c.loop-k.k-counter in
+    let a = string_bytes c.loop-k.text in
+    let name = c.args.name.now in
+    let e : told c.row_at.result ≡ rows k = h k c.row_at.result c.loop-k-test.true c.row_at.ensures in
+    more_lines (λ k. row_lines name k (rows k)) k _ a _ (c.loop-k.invariant rows h)
+    (elim c.match-row_at.branch [
+      | in-Ok-Some+in_ok-writeln-in-Ok-Some w ↦
+          ap string_bytes w.text-is
+          ∙ line_added a _ name _ _ w.in_ok-writeln-in-Ok-Some.ensures.bytes (word_before (decimal k) _ _ refl)
+          ∙ ap (λ o. a ++ text_of (row_lines name k o)) (sym (ap told (w.in-Ok-Some.is ∙ ap Ok w.in-Ok-Some.field-0-is)) ∙ e)
+      | in-Ok-None w ↦
+          ap string_bytes w.text-is ∙ no_line a
+          ∙ ap (λ o. a ++ text_of (row_lines name k o)) (sym (ap told (w.in-Ok-None.is ∙ ap Ok w.in-Ok-None.field-0-is)) ∙ e)
+      | in-Err w ↦
+          ap string_bytes w.text-is ∙ no_line a
+          ∙ ap (λ o. a ++ text_of (row_lines name k o)) (sym (ap told w.in-Err.is) ∙ e)
+    ])
+
+pub returns : goal.returns
+returns g c = λ rows h.
+    let end : c.loop-k.k-counter ≡ 32 = omega arith in
+    c.loop-k.invariant rows h ∙ ap (λ n. string_bytes c.args.text.now ++ text_of (listed (λ k. row_lines c.args.name.now k (rows k)) n)) end

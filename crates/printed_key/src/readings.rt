@@ -1,0 +1,71 @@
+// The block of readings: voltages in whole thousandths after one step in binary64.
+ghost use Rattle.std.specs.Prelude.{◌≡◌, length, string_bytes};
+ghost use Rattle.printed_key.specs.Blocks.{reading_here, readings_below, readings_after, reading_lines, step_lines};
+ghost use Rattle.printed_key.specs.Text.{Adds, text_of};
+ghost use Rattle.sheet.specs.Refusals.{told};
+
+use crate::stop::Stop;
+use arithmetic::Arithmetic;
+use figures::reading;
+use sheet::{Plan, Refusal, Row};
+use std::alloc::AllocError;
+use stepping::step;
+use topology::is_placed;
+
+// The reading of the branch k; none at an empty place.
+fn reading_at(plan: &Plan, rows: &[Row<f64>], k: u32) -> Result<Option<i32>, Refusal>
+    ensures { told result ≡ reading_here plan.now rows.now k }
+{
+    if !is_placed(plan, k) {
+        return Ok(None);
+    }
+    reading(plan, rows, k).map(Some)
+}
+
+// The readings of all branches, or the first that is refused.
+fn readings(plan: &Plan, rows: &[Row<f64>]) -> Result<[Option<i32>; 32], Refusal>
+    ensures { told result ≡ readings_below plan.now rows.now 32 }
+{
+    let mut readings = [None; 32];
+    for k in 0..32 {
+        readings[k] = reading_at(plan, rows, k as u32)?;
+    }
+    Ok(readings)
+}
+
+// The readings of all branches after one step of length 1.
+fn stepped_readings(plan: &Plan, rows: &mut [Row<f64>]) -> Result<[Option<i32>; 32], Refusal>
+    requires { length rows.old ≡ 32 }
+    ensures { told result ≡ readings_after (record { plan = plan.now; rows = rows.old }) }
+{
+    let mut area = [<f64 as Arithmetic>::zero(); 304];
+    step(plan, rows, <f64 as Arithmetic>::one(), &mut area)?;
+    readings(plan, rows)
+}
+
+// `mv 1 4000` for each branch.
+fn push_taken(text: &mut String, readings: &[Option<i32>; 32]) -> Result<(), AllocError>
+    ensures { Adds result (string_bytes text.old) (string_bytes text.new) (text_of (reading_lines readings.now)) }
+{
+    for k in 0..32 {
+        if let Some(reading) = readings[k] {
+            writeln!(text, "mv {k} {reading}")?;
+        }
+    }
+    Ok(())
+}
+
+// A line for each branch, or one refusal in place of them all.
+pub(crate) fn push_readings(
+    text: &mut String,
+    plan: &Plan,
+    rows: &mut [Row<f64>],
+) -> Result<(), AllocError>
+    requires { length rows.old ≡ 32 }
+    ensures { Adds result (string_bytes text.old) (string_bytes text.new) (text_of (step_lines (record { plan = plan.now; rows = rows.old }))) }
+{
+    match stepped_readings(plan, rows) {
+        Ok(readings) => push_taken(text, &readings),
+        Err(refusal) => writeln!(text, "{}", Stop::Refused(refusal)),
+    }
+}

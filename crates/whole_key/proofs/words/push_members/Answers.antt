@@ -1,9 +1,0 @@
-use Rattle.whole_key.specs.Blocks.{member_words}
-use Rattle.whole_key.proofs.Adding.{no_words, more_words}
-use Rattle.whole_key.proofs.words.push_members.Goals as goal
-
-pub loop-k-init : goal.loop-k-init
-loop-k-init c = no_words _ _
-
-pub loop-k-preserved : goal.loop-k-preserved
-loop-k-preserved c = more_words (member_words c.args.word) _ _ _ _ c.loop-k.invariant c.in_ok-push_member.ensures
