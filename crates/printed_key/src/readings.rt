@@ -27,8 +27,8 @@ fn readings(plan: &Plan, rows: &[Row<f64>]) -> Result<[Option<i32>; 32], Refusal
     ensures { told result ≡ readings_below plan.now rows.now 32 }
 {
     let mut readings = [None; 32];
-    for k in 0..32 {
-        readings[k] = reading_at(plan, rows, k as u32)?;
+    for (k, reading) in readings.iter_mut().enumerate() {
+        *reading = reading_at(plan, rows, k as u32)?;
     }
     Ok(readings)
 }
@@ -47,8 +47,8 @@ fn stepped_readings(plan: &Plan, rows: &mut [Row<f64>]) -> Result<[Option<i32>; 
 fn push_taken(text: &mut String, readings: &[Option<i32>; 32]) -> Result<(), AllocError>
     ensures { Adds result (string_bytes text.old) (string_bytes text.new) (text_of (reading_lines readings.now)) }
 {
-    for k in 0..32 {
-        if let Some(reading) = readings[k] {
+    for (k, reading) in readings.iter().enumerate() {
+        if let Some(reading) = *reading {
             writeln!(text, "mv {k} {reading}")?;
         }
     }

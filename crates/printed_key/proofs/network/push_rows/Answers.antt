@@ -1,6 +1,6 @@
-use Rattle.std.proofs.Common.{◌≡◌, ◌++◌, Some, None, Ok, string_bytes, decimal, sym, refl, ap, ◌∙◌, arith}
-use Rattle.sheet.specs.Refusals.{granted, told}
-use Rattle.printed_key.specs.Blocks.{row_lines}
+use Rattle.std.proofs.Common.{◌≡◌, ◌∷◌, ◌++◌, Ok, string_bytes, decimal, sym, refl, ap, ◌∙◌, arith}
+use Rattle.sheet.specs.Refusals.{told}
+use Rattle.printed_key.specs.Blocks.{row_lines, signed_words}
 use Rattle.printed_key.specs.Text.{text_of, listed}
 use Rattle.printed_key.proofs.Adding.{no_lines, more_lines, no_line, word_before, line_added}
 use Rattle.printed_key.proofs.network.push_rows.Goals as goal
@@ -19,7 +19,7 @@ loop-k-preserved g c = λ rows h.
     (elim c.match-row_at.branch [
       | in-Ok-Some+in_ok-writeln-in-Ok-Some w ↦
           ap string_bytes w.text-is
-          ∙ line_added a _ name _ _ w.in_ok-writeln-in-Ok-Some.ensures.bytes (word_before (decimal k) _ _ refl)
+          ∙ line_added a (string_bytes w.writeln.new.self) name _ (decimal k ∷ listed (signed_words w.in-Ok-Some.row) 32) w.in_ok-writeln-in-Ok-Some.ensures.bytes (word_before (decimal k) _ (listed (signed_words w.in-Ok-Some.row) 32) refl)
           ∙ ap (λ o. a ++ text_of (row_lines name k o)) (sym (ap told (w.in-Ok-Some.is ∙ ap Ok w.in-Ok-Some.field-0-is)) ∙ e)
       | in-Ok-None w ↦
           ap string_bytes w.text-is ∙ no_line a

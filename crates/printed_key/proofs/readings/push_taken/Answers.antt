@@ -1,5 +1,4 @@
-use Rattle.std.proofs.Common.{◌≡◌, [], ◌++◌, get_or, Some, None, string_bytes, codes, sym, ap, ◌∙◌, subst, rules, w32}
-use Rattle.std.specs.Fmt.{signed_decimal}
+use Rattle.std.proofs.Common.{◌≡◌, ◌++◌, get_or, Some, None, string_bytes, codes, sym, ap, ◌∙◌, rules, w32}
 use Rattle.printed_key.specs.Blocks.{reading_line}
 use Rattle.printed_key.specs.Text.{text_of}
 use Rattle.printed_key.proofs.Adding.{no_lines, more_lines, no_line, line_end, word_before, line_added}
@@ -15,7 +14,7 @@ loop-k-preserved c =
     let k = c.loop-k.k-counter in
     let a = string_bytes c.loop-k.text in
     more_lines (λ k. reading_line k (get_or c.args.readings.now k None)) _ _ _ _ c.loop-k.invariant
-    (elim c.match-readings-k.branch [
+    (elim c.match-reading.branch [
       | in-Some+in_ok-writeln w ↦
           (let z : to_z w32 (of_z w32 w.in-Some.reading) ≡ w.in-Some.reading = search rules in
           ap string_bytes w.text-is
