@@ -2,6 +2,7 @@
 --
 -- no_memory    the mark of want of memory, the largest number of 64 bits
 -- in_front     a buffer with a text at its front, where it is long enough for it
+-- mark         the number of a refusal; 0 of a granted answer
 -- mark_of      the number of the refusal that ends the key of the cards before its steps; 0 if there is none
 -- Keyed        the key of the cards: its length, and the buffer with it; or want of memory and the buffer as it was
 use Rattle.std.specs.Prelude.{◌≡◌, ℕ, cond, ◌⊎◌, List, ◌++◌, length, drop, Some, None, Option, nat_le, nat_lt, Float}
@@ -23,12 +24,12 @@ abbrev pub Keyed : List ℕ → List ℕ → ℕ → List ℕ → Type 0
 Keyed cards buffer r buffer' =
     ((r ≡ length (key_text cards)) × (buffer' ≡ in_front (key_text cards) buffer)) ⊎ ((r ≡ no_memory) × (buffer' ≡ buffer))
 
-abbrev pub tree_mark : Answer ℕ → ℕ
-tree_mark (granted w) = 0
-tree_mark (refused t) = t.number
+abbrev pub mark : {X : Type 0} → Answer X → ℕ
+mark (granted x) = 0
+mark (refused t) = t.number
 
 abbrev pub fault_mark : Option Named → Plan → ℕ
-fault_mark None p = tree_mark (tree_of p)
+fault_mark None p = mark (tree_of p)
 fault_mark (Some f) p = f.told.number
 
 abbrev pub state_mark : State Float → ℕ

@@ -3,8 +3,8 @@
 #![tactic(auto)]
 
 ghost use Rattle.std.specs.Prelude.{◌≡◌, length};
-ghost use Rattle.station.specs.Station.{in_front, Keyed, tree_mark, mark_of};
-ghost use Rattle.topology.specs.Trees.{tree_of};
+ghost use Rattle.sheet.specs.Refusals.{told};
+ghost use Rattle.station.specs.Station.{in_front, Keyed, mark, mark_of};
 
 use cards::read_cards;
 use printed_key::{LONGEST, fresh_rows, whole_key};
@@ -12,7 +12,7 @@ use sheet::{Plan, Refusal};
 use std::alloc::Global;
 use topology::tree;
 
-// What is answered for want of memory.
+// What is answered for want of memory, since C takes a number alone.
 const NO_MEMORY: usize = usize::MAX;
 
 // The text at the front of the buffer, where it fits; a shorter buffer is left alone.
@@ -39,27 +39,29 @@ pub extern "C" fn covshurii_key(heap: Global, cards: &[u8], buffer: &mut [u8]) -
     }
 }
 
-// The refusal's number in the way of a plan's tree; 0 where there is none.
-fn tree_mark(plan: &Plan) -> u32
-    ensures { result ≡ tree_mark (tree_of plan.now) }
+// The refusal that ends the key of a card file before its steps, if there is one.
+fn check_circuit(cards: &[u8]) -> Result<(), Refusal>
+    ensures { mark (told result) ≡ mark_of cards.now }
 {
-    match tree(plan) {
-        Ok(_) => 0,
-        Err(refusal) => refusal.number(),
+    if cards.len() > LONGEST {
+        return Err(Refusal::InputTooLong);
     }
+    let (mut plan, mut rows) = (Plan::empty(), fresh_rows::<f64>());
+    if let Err(fault) = read_cards(cards, &mut plan, &mut rows) {
+        return Err(fault.refusal);
+    }
+    let _ = tree(&plan)?;
+    Ok(())
 }
 
-// The number of the refusal that ends the key of a card file before its steps; 0 where there is none.
+// The number of the refusal that ends the key of a card file before its steps; 0 where there is none, since C takes a
+// number alone.
 #[unsafe(no_mangle)]
 pub extern "C" fn covshurii_mark(cards: &[u8]) -> u32
     ensures { result ≡ mark_of cards.now }
 {
-    if cards.len() > LONGEST {
-        return Refusal::InputTooLong.number();
-    }
-    let (mut plan, mut rows) = (Plan::empty(), fresh_rows::<f64>());
-    match read_cards(cards, &mut plan, &mut rows) {
-        Ok(()) => tree_mark(&plan),
-        Err(fault) => fault.refusal.number(),
+    match check_circuit(cards) {
+        Ok(()) => 0,
+        Err(refusal) => refusal.number(),
     }
 }
