@@ -3,8 +3,8 @@ use Rattle.std.proofs.Common.{◌≡◌, ℕ, ◌<◌, true, false, cond, ◌||�
 use Rattle.arithmetic.specs.Ops.{Ops}
 use Rattle.graphs.specs.Graph.{◌∈◌}
 use Rattle.graphs.specs.Cuts.{turned}
-use Rattle.tree_stories.specs.Assembly.{through, taken, Parts}
-use Rattle.tree_stories.specs.Steps.{tree_voltage, voltage_of, flow_of, current_of}
+use Rattle.stories.specs.Assembly.{through, taken, Parts}
+use Rattle.stories.specs.Steps.{tree_voltage, voltage_of, flow_of, current_of}
 use Rattle.topology.specs.Words.{bits}
 use Rattle.assembly.specs.declared.frame.Frame.{Frame}
 use Rattle.assembly.specs.Frames.{gathered, Frames}

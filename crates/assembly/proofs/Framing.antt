@@ -7,7 +7,7 @@ use Rattle.sheet.specs.declared.plan.Plan.{Plan}
 use Rattle.sheet.specs.Plans.{branch_at}
 use Rattle.graphs.specs.Greedy.{up_to}
 use Rattle.topology.specs.Networks.{kind_class, class_found, placed, class_at}
-use Rattle.tree_stories.specs.Networks.{kind_found, kind_at, is_passive, is_current, is_voltage}
+use Rattle.stories.specs.Networks.{kind_found, kind_at, is_passive, is_current, is_voltage}
 
 -- a test of kinds is a test of places
 by_kind : (p : Plan) (of : Bool → ℕ → Bool) (is : Option Kind → Bool) → ((c : ℕ) → of false c ≡ false) → is None ≡ false → ((x : Kind) → of true (kind_class x) ≡ is (Some x)) → (k : ℕ) → of (placed p k) (class_at p k) ≡ is (kind_at p k)

@@ -1,6 +1,6 @@
 -- Invariants of code that runs a loop of turns: what is made so far is what the turns so far make. Assumes nothing.
 use Rattle.std.proofs.Common.{◌≡◌, ℕ, suc, ◌+◌, refl, ap, ◌∙◌, arith}
-use Rattle.tree_stories.specs.Assembly.{through}
+use Rattle.stories.specs.Assembly.{through}
 
 pub none_made : {W : Type 0} (f : ℕ → W → W) (w : W) → w ≡ through f 0 w
 unfolding through

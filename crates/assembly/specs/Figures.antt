@@ -9,8 +9,8 @@ use Rattle.std.specs.Prelude.{◌≡◌, ℕ, ◌<◌, true, cond, ◌||◌, Lis
 use Rattle.arithmetic.specs.Ops.{Ops}
 use Rattle.graphs.specs.Graph.{Set, ◌∈◌}
 use Rattle.linear.specs.Elimination.{entry}
-use Rattle.tree_stories.specs.Assembly.{through, taken, Parts}
-use Rattle.tree_stories.specs.Steps.{tree_voltage}
+use Rattle.stories.specs.Assembly.{through, taken, Parts}
+use Rattle.stories.specs.Steps.{tree_voltage}
 
 abbrev pub all : Set
 all k = true

@@ -23,8 +23,8 @@ use Rattle.topology.specs.Matrices.{entry}
 use Rattle.topology.specs.Networks.{graph_of, placed}
 use Rattle.topology.specs.Rows.{shown}
 use Rattle.topology.specs.Words.{bits}
-use Rattle.tree_stories.specs.Networks.{kind_at, is_passive, is_current, is_voltage}
-use Rattle.tree_stories.specs.Assembly.{through, taken, Parts, entry_of, with_row}
+use Rattle.stories.specs.Networks.{kind_at, is_passive, is_current, is_voltage}
+use Rattle.stories.specs.Assembly.{through, taken, Parts, entry_of, with_row}
 use Rattle.assembly.specs.declared.frame.Frame.{Frame}
 
 abbrev pub nothing : Shown

@@ -2,8 +2,8 @@
 ghost use Rattle.std.specs.Prelude.{◌≡◌, ℕ, ◌<◌, true, map, length};
 ghost use Rattle.assembly.specs.Figures.{all, in_use, found, link_voltage, Filled};
 ghost use Rattle.assembly.specs.Frames.{Frames, Holds, Levels, levels_of};
-ghost use Rattle.tree_stories.specs.Assembly.{Parts};
-ghost use Rattle.tree_stories.specs.Steps.{tree_voltage, voltage_of, flow_of, current_of};
+ghost use Rattle.stories.specs.Assembly.{Parts};
+ghost use Rattle.stories.specs.Steps.{tree_voltage, voltage_of, flow_of, current_of};
 
 use crate::frame::Frame;
 use crate::gathering::gather;

@@ -2,7 +2,7 @@
 ghost use Rattle.std.specs.Prelude.{◌≡◌, ℕ, ◌<◌, if◌then◌else◌};
 ghost use Rattle.assembly.specs.Frames.{gathered};
 ghost use Rattle.graphs.specs.Graph.{Set, ◌∈◌};
-ghost use Rattle.tree_stories.specs.Assembly.{taken};
+ghost use Rattle.stories.specs.Assembly.{taken};
 ghost use Rattle.topology.specs.Rows.{sign_of};
 ghost use Rattle.topology.specs.Words.{bits};
 

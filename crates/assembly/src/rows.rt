@@ -1,7 +1,7 @@
 // Operations on rows of signs.
 ghost use Rattle.std.specs.Prelude.{◌≡◌, ℕ};
 ghost use Rattle.graphs.specs.Cuts.{turned};
-ghost use Rattle.tree_stories.specs.Assembly.{agree};
+ghost use Rattle.stories.specs.Assembly.{agree};
 ghost use Rattle.topology.specs.Matrices.{entry};
 
 use sheet::Shown;

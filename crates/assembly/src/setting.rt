@@ -2,7 +2,7 @@
 ghost use Rattle.std.specs.Prelude.{◌≡◌, ◌<◌, if◌then◌else◌};
 ghost use Rattle.assembly.specs.Frames.{Sets, levels_of};
 ghost use Rattle.graphs.specs.Graph.{◌∈◌};
-ghost use Rattle.tree_stories.specs.Assembly.{Parts, entry_of, fed, levelled, right_of};
+ghost use Rattle.stories.specs.Assembly.{Parts, entry_of, fed, levelled, right_of};
 
 use crate::frame::Frame;
 use crate::gathering::gather;

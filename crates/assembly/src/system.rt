@@ -5,7 +5,7 @@ ghost use Rattle.std.specs.Prelude.{◌≡◌, count_by, map, if◌then◌else�
 ghost use Rattle.assembly.specs.Frames.{Frames, Holds, Levels, Sets, levels_of, entered, system_of};
 ghost use Rattle.graphs.specs.Graph.{◌∈◌, count};
 ghost use Rattle.linear.specs.Elimination.{cell};
-ghost use Rattle.tree_stories.specs.Assembly.{Parts, entry_of, with_row};
+ghost use Rattle.stories.specs.Assembly.{Parts, entry_of, with_row};
 ghost use Rattle.topology.specs.Words.{bits};
 
 use crate::frame::Frame;

@@ -12,7 +12,7 @@ use Rattle.sheet.specs.Meanings.{meant_row, meant_sheet, meanings}
 use Rattle.sheet.specs.Plans.{empty_plan}
 use Rattle.sheet.specs.Refusals.{Answer, granted, refused, refuse, after, Told, pass, fail, verdict_of}
 use Rattle.stepping.specs.Calls.{StepDoes}
-use Rattle.tree_stories.specs.Steps.{renewed_rows, solving, step_parts, step_result, unsound, stepped}
+use Rattle.stories.specs.Steps.{renewed_rows, solving, step_parts, step_result, unsound, stepped}
 use Rattle.topology.specs.Trees.{tree_of}
 use Rattle.printed_key.specs.Blocks.{one_step}
 

@@ -38,7 +38,7 @@ use Rattle.sheet.specs.Calls.{Sheet}
 use Rattle.sheet.specs.Looks.{seen}
 use Rattle.sheet.specs.Meanings.{meant_sheet}
 use Rattle.sheet.specs.Refusals.{Answer, granted, refused, after, Told, means}
-use Rattle.tree_stories.specs.Steps.{stepped}
+use Rattle.stories.specs.Steps.{stepped}
 use Rattle.topology.specs.Networks.{placed}
 use Rattle.topology.specs.Trees.{loop_row_of, cut_row_of}
 use Rattle.topology.specs.Words.{bits}

@@ -6,7 +6,7 @@ use Rattle.sheet.specs.declared.row.Row.{Row}
 use Rattle.sheet.specs.Calls.{Sheet, Call, blank, place, lift, set_value, outcome, left}
 use Rattle.sheet.specs.Meanings.{meanings}
 use Rattle.sheet.specs.Refusals.{Answer, granted, refused, refuse, pass, verdict_of}
-use Rattle.tree_stories.specs.Stories.{blank_sheet, run}
+use Rattle.stories.specs.Stories.{blank_sheet, run}
 use Rattle.stepping.specs.Telling.{CallsTellStories}
 
 -- a blank that is granted

@@ -8,9 +8,9 @@ use Rattle.sheet.specs.declared.plan.Plan.{Plan}
 use Rattle.sheet.specs.declared.row.Row.{Row}
 use Rattle.sheet.specs.Meanings.{meant_row}
 use Rattle.sheet.specs.Plans.{branch_at}
-use Rattle.tree_stories.specs.Companions.{conductance, feed}
-use Rattle.tree_stories.specs.Networks.{kind_found, kind_at}
-use Rattle.tree_stories.specs.Steps.{row_at}
+use Rattle.stories.specs.Companions.{conductance, feed}
+use Rattle.stories.specs.Networks.{kind_found, kind_at}
+use Rattle.stories.specs.Steps.{row_at}
 use Rattle.stepping.specs.Steps.{is_feeding, companion_turn}
 
 pub kind_at_lem : (p : Plan) (k : ℕ) (b : Option Branch) → k < 32 → b ≡ branch_at p k → kind_found b ≡ kind_at p k

@@ -9,8 +9,8 @@ use Rattle.sheet.specs.declared.row.Row.{Row}
 use Rattle.sheet.specs.Meanings.{meant_row}
 use Rattle.graphs.specs.Graph.{Set}
 use Rattle.topology.specs.Networks.{placed}
-use Rattle.tree_stories.specs.Networks.{any}
-use Rattle.tree_stories.specs.Steps.{row_at, renewed}
+use Rattle.stories.specs.Networks.{any}
+use Rattle.stories.specs.Steps.{row_at, renewed}
 use Rattle.stepping.specs.Steps.{unsound_at, renewed_at, given, Others}
 
 -- asked of the numbers below n, from the lowest up or from the highest down

@@ -10,11 +10,11 @@ use Rattle.sheet.specs.Meanings.{meant_row, meant_sheet}
 use Rattle.sheet.specs.Refusals.{granted, refused, refuse, Told, pass, fail, verdict_of}
 use Rattle.graphs.specs.Graph.{Set, ◌∈◌}
 use Rattle.topology.specs.Networks.{placed}
-use Rattle.tree_stories.specs.Assembly.{through}
-use Rattle.tree_stories.specs.Networks.{kind_at, is_voltage, is_current, is_passive, any}
-use Rattle.tree_stories.specs.Steps.{row_at, parts_of, solving, figure_of, voltage_of, current_of, renewed, renewed_rows, unsound, step_parts, step_result}
-use Rattle.tree_stories.proofs.Areas.{turns_keep}
-use Rattle.tree_stories.proofs.Networks.{placed_kind}
+use Rattle.stories.specs.Assembly.{through}
+use Rattle.stories.specs.Networks.{kind_at, is_voltage, is_current, is_passive, any}
+use Rattle.stories.specs.Steps.{row_at, parts_of, solving, figure_of, voltage_of, current_of, renewed, renewed_rows, unsound, step_parts, step_result}
+use Rattle.stories.proofs.Areas.{turns_keep}
+use Rattle.stories.proofs.Networks.{placed_kind}
 use Rattle.assembly.specs.Figures.{all, in_use, Filled}
 use Rattle.stepping.specs.Steps.{unsound_at, renewed_at, given, settled, Settles, Others}
 

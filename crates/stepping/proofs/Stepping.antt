@@ -10,12 +10,12 @@ use Rattle.sheet.specs.Meanings.{meant_row, meant_sheet}
 use Rattle.sheet.specs.Refusals.{Answer, granted, refused, refuse, after, Told, Verdict, pass, fail, verdict_of}
 use Rattle.topology.specs.Trees.{tree_of}
 use Rattle.topology.proofs.Meaning.{Ways, ways}
-use Rattle.tree_stories.specs.Laws.{Live}
-use Rattle.tree_stories.specs.Steps.{row_at, solving, renewed_rows, unsound, step_parts, step_result, stepped}
-use Rattle.tree_stories.specs.Stories.{StoryCall, run}
-use Rattle.tree_stories.specs.Theorem.{Granted, Solved, TheoremOfStories, TreesOfStories}
-use Rattle.tree_stories.proofs.Sheets.{run-kept}
-use Rattle.tree_stories.proofs.Theorem.{theorem_of_stories, trees_of_stories}
+use Rattle.stories.specs.Laws.{Live}
+use Rattle.stories.specs.Steps.{row_at, solving, renewed_rows, unsound, step_parts, step_result, stepped}
+use Rattle.stories.specs.Stories.{StoryCall, run}
+use Rattle.stories.specs.Theorem.{Granted, Solved, TheoremOfStories, TreesOfStories}
+use Rattle.stories.proofs.Sheets.{run-kept}
+use Rattle.stories.proofs.Theorem.{theorem_of_stories, trees_of_stories}
 use Rattle.stepping.specs.Calls.{cleared, spends, StepDoes, StepSolved, Continues}
 use Rattle.stepping.specs.Steps.{settled, Settles}
 

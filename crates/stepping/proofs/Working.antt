@@ -23,13 +23,13 @@ use Rattle.topology.specs.Words.{bits}
 use Rattle.topology.proofs.Meaning.{granted_tree}
 use Rattle.topology.proofs.Summing.{entry-shown}
 use Rattle.topology.proofs.Theory.{tree_below}
-use Rattle.tree_stories.specs.Assembly.{through, Parts, size, blank_area, with_companions, assembled}
-use Rattle.tree_stories.specs.Networks.{kind_at, is_voltage, is_current, is_passive}
-use Rattle.tree_stories.specs.Steps.{row_at, parts_of, solving, figure_of, voltage_of, current_of, step_parts}
-use Rattle.tree_stories.proofs.Areas.{companions_conductance, companions_feed, solving-conductance, solving-feed, assembled_long}
-use Rattle.tree_stories.proofs.Networks.{placed_kind}
-use Rattle.tree_stories.proofs.Systems.{step_few}
-use Rattle.tree_stories.proofs.Trees.{proper_voltage}
+use Rattle.stories.specs.Assembly.{through, Parts, size, blank_area, with_companions, assembled}
+use Rattle.stories.specs.Networks.{kind_at, is_voltage, is_current, is_passive}
+use Rattle.stories.specs.Steps.{row_at, parts_of, solving, figure_of, voltage_of, current_of, step_parts}
+use Rattle.stories.proofs.Areas.{companions_conductance, companions_feed, solving-conductance, solving-feed, assembled_long}
+use Rattle.stories.proofs.Networks.{placed_kind}
+use Rattle.stories.proofs.Systems.{step_few}
+use Rattle.stories.proofs.Trees.{proper_voltage}
 use Rattle.assembly.specs.declared.frame.Frame.{Frame}
 use Rattle.assembly.specs.Figures.{all, in_use, found, Filled}
 use Rattle.assembly.specs.Frames.{Frames, FrameOf, Holds, Levels, levels_of, system_of}

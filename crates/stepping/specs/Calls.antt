@@ -14,10 +14,10 @@ use Rattle.sheet.specs.Meanings.{meant_row, meant_sheet}
 use Rattle.sheet.specs.Refusals.{Told, Verdict, pass, fail, verdict_of}
 use Rattle.graphs.specs.Graph.{◌∈◌}
 use Rattle.topology.specs.Networks.{placed}
-use Rattle.tree_stories.specs.Laws.{Live}
-use Rattle.tree_stories.specs.Steps.{row_at, stepped}
-use Rattle.tree_stories.specs.Stories.{StoryCall, step, run}
-use Rattle.tree_stories.specs.Theorem.{OnlyZeroDead}
+use Rattle.stories.specs.Laws.{Live}
+use Rattle.stories.specs.Steps.{row_at, stepped}
+use Rattle.stories.specs.Stories.{StoryCall, step, run}
+use Rattle.stories.specs.Theorem.{OnlyZeroDead}
 use Rattle.stepping.specs.Steps.{given, Others}
 
 unfoldable pub cleared : {V : Type 0} → V → List V → List V

@@ -18,10 +18,10 @@ use Rattle.sheet.specs.Calls.{Sheet, left}
 use Rattle.sheet.specs.Meanings.{meant_row, meant_sheet}
 use Rattle.sheet.specs.Refusals.{Answer, granted, refuse, Told, Verdict, fail, verdict_of}
 use Rattle.topology.specs.Networks.{placed}
-use Rattle.tree_stories.specs.Assembly.{size}
-use Rattle.tree_stories.specs.Companions.{conductance, feed}
-use Rattle.tree_stories.specs.Networks.{kind_at, is_passive, is_current}
-use Rattle.tree_stories.specs.Steps.{row_at, solving, renewed, renewed_rows, unsound, step_parts, step_result}
+use Rattle.stories.specs.Assembly.{size}
+use Rattle.stories.specs.Companions.{conductance, feed}
+use Rattle.stories.specs.Networks.{kind_at, is_passive, is_current}
+use Rattle.stories.specs.Steps.{row_at, solving, renewed, renewed_rows, unsound, step_parts, step_result}
 
 abbrev pub is_feeding : Option Kind → Bool
 is_feeding k = is_passive k || is_current k

@@ -9,7 +9,7 @@ use Rattle.sheet.specs.declared.row.Row.{Row}
 use Rattle.sheet.specs.Calls.{Sheet, Call, blank, Does}
 use Rattle.sheet.specs.Meanings.{meanings}
 use Rattle.sheet.specs.Refusals.{Verdict, pass}
-use Rattle.tree_stories.specs.Stories.{StoryCall, on_sheet, run}
+use Rattle.stories.specs.Stories.{StoryCall, on_sheet, run}
 
 pub record CallsTellStories {M : Type 0} (o : Ops M) : Type 0 where
   pub begins : (s s' : Sheet M) → Does (meanings o) blank s.plan s.rows pass s'.plan s'.rows → run o [] ≡ s'

@@ -6,8 +6,8 @@ ghost use Rattle.sheet.specs.Meanings.{meant_row, meant_sheet};
 ghost use Rattle.sheet.specs.Refusals.{granted, verdict};
 ghost use Rattle.stepping.specs.Calls.{StepDoes, Continues};
 ghost use Rattle.stepping.specs.Steps.{Worked, Settles};
-ghost use Rattle.tree_stories.specs.Stories.{StoryCall, run};
-ghost use Rattle.tree_stories.specs.Theorem.{TheoremOfStories, TreesOfStories};
+ghost use Rattle.stories.specs.Stories.{StoryCall, run};
+ghost use Rattle.stories.specs.Theorem.{TheoremOfStories, TreesOfStories};
 ghost use Rattle.topology.specs.Trees.{tree_of};
 
 use crate::area::clear;

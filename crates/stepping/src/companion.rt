@@ -2,9 +2,9 @@
 ghost use Rattle.std.specs.Prelude.{◌≡◌, ◌+◌, ◌<◌, map, length, if◌then◌else◌, Some, slice_set};
 ghost use Rattle.sheet.specs.Meanings.{meant_row};
 ghost use Rattle.stepping.specs.Steps.{is_feeding, companion_turn};
-ghost use Rattle.tree_stories.specs.Assembly.{through};
-ghost use Rattle.tree_stories.specs.Companions.{conductance, feed};
-ghost use Rattle.tree_stories.specs.Steps.{row_at};
+ghost use Rattle.stories.specs.Assembly.{through};
+ghost use Rattle.stories.specs.Companions.{conductance, feed};
+ghost use Rattle.stories.specs.Steps.{row_at};
 
 use arithmetic::Arithmetic;
 use linear::put;

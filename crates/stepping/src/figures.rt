@@ -4,8 +4,8 @@ ghost use Rattle.std.specs.List.{list_any, range_with_len};
 ghost use Rattle.sheet.specs.Meanings.{meant_row};
 ghost use Rattle.sheet.specs.declared.row.Row.{Row};
 ghost use Rattle.stepping.specs.Steps.{Others, unsound_at, renewed_at, given};
-ghost use Rattle.tree_stories.specs.Assembly.{through};
-ghost use Rattle.tree_stories.specs.Steps.{renewed};
+ghost use Rattle.stories.specs.Assembly.{through};
+ghost use Rattle.stories.specs.Steps.{renewed};
 
 use arithmetic::Arithmetic;
 use linear::get;

@@ -1,5 +1,5 @@
 // One time step of a sheet, and the theorem of stories on its contract. specs/Calls.antt says what `step` answers and
-// leaves, specs/ of the crate `tree_stories` what a step, a story and the theorem are.
+// leaves, specs/ of the crate `stories` what a step, a story and the theorem are.
 #![tactic(auto)]
 
 mod area;

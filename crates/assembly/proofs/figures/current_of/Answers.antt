@@ -1,6 +1,6 @@
 use Rattle.std.proofs.Common.{◌≡◌, map, get_or, rules, sym, ap, ◌∙◌, arith}
 use Rattle.graphs.specs.Cuts.{turned}
-use Rattle.tree_stories.specs.Steps.{flow_of}
+use Rattle.stories.specs.Steps.{flow_of}
 use Rattle.topology.specs.Matrices.{entry}
 use Rattle.topology.specs.Rows.{sign_of}
 use Rattle.assembly.specs.Frames.{gathered}

@@ -1,5 +1,5 @@
 use Rattle.std.proofs.Common.{◌≡◌, map, get_or, rules, refl, ap, ◌∙◌, arith}
-use Rattle.tree_stories.specs.Steps.{tree_voltage}
+use Rattle.stories.specs.Steps.{tree_voltage}
 use Rattle.topology.specs.Matrices.{entry}
 use Rattle.topology.specs.Rows.{sign_of}
 use Rattle.assembly.specs.Figures.{link_voltage}

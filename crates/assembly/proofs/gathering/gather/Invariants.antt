@@ -1,6 +1,6 @@
 use Rattle.std.proofs.Common.{◌≡◌, ℕ, ◌<◌}
 use Rattle.graphs.specs.Graph.{Set, ◌∈◌}
-use Rattle.tree_stories.specs.Assembly.{through}
+use Rattle.stories.specs.Assembly.{through}
 use Rattle.topology.specs.Rows.{sign_of}
 use Rattle.topology.specs.Words.{bits}
 use Rattle.assembly.proofs.Reading.{turn}

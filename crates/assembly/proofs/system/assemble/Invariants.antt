@@ -1,5 +1,5 @@
 use Rattle.std.proofs.Common.{◌≡◌, map}
-use Rattle.tree_stories.specs.Assembly.{through, Parts}
+use Rattle.stories.specs.Assembly.{through, Parts}
 use Rattle.assembly.specs.Frames.{Sets}
 use Rattle.assembly.proofs.Reading.{row_turn}
 use Rattle.assembly.proofs.system.assemble.Given as goal

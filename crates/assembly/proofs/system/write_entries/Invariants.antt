@@ -1,6 +1,6 @@
 use Rattle.std.proofs.Common.{◌≡◌, map}
 use Rattle.graphs.specs.Graph.{◌∈◌}
-use Rattle.tree_stories.specs.Assembly.{through, Parts}
+use Rattle.stories.specs.Assembly.{through, Parts}
 use Rattle.assembly.specs.Frames.{Sets}
 use Rattle.assembly.proofs.Reading.{entry_turn}
 use Rattle.assembly.proofs.system.write_entries.Given as goal

@@ -1,6 +1,6 @@
 use Rattle.std.proofs.Common.{map, ◌∙◌, arith}
 use Rattle.sheet.specs.Meanings.{meant_row}
-use Rattle.tree_stories.specs.Steps.{row_at}
+use Rattle.stories.specs.Steps.{row_at}
 use Rattle.stepping.proofs.Companions.{row_at_lem, stored, not-stored}
 use Rattle.stepping.proofs.companion.store_companion.Goals as goal
 

@@ -1,7 +1,7 @@
 use Rattle.std.proofs.Common.{◌≡◌, map}
 use Rattle.sheet.specs.Meanings.{meant_row}
-use Rattle.tree_stories.specs.Assembly.{through}
-use Rattle.tree_stories.specs.Steps.{row_at}
+use Rattle.stories.specs.Assembly.{through}
+use Rattle.stories.specs.Steps.{row_at}
 use Rattle.stepping.specs.Steps.{companion_turn}
 use Rattle.stepping.proofs.companion.store_companions.Given as goal
 

@@ -1,5 +1,5 @@
 use Rattle.std.proofs.Common.{◌≡◌, map, get_or, rules, ap, ◌∙◌, ap₂}
-use Rattle.tree_stories.specs.Assembly.{agree, entry_of}
+use Rattle.stories.specs.Assembly.{agree, entry_of}
 use Rattle.topology.specs.Matrices.{entry}
 use Rattle.topology.specs.Rows.{sign_of}
 use Rattle.assembly.specs.Frames.{gathered}

@@ -1,6 +1,6 @@
 use Rattle.std.proofs.Common.{◌≡◌, ◌+◌, map, get_or, rules, ap, ◌∙◌}
 use Rattle.graphs.specs.Cuts.{turned}
-use Rattle.tree_stories.specs.Assembly.{fed}
+use Rattle.stories.specs.Assembly.{fed}
 use Rattle.topology.specs.Matrices.{entry}
 use Rattle.topology.specs.Rows.{sign_of}
 use Rattle.assembly.specs.Frames.{gathered}

@@ -1,6 +1,6 @@
 use Rattle.std.proofs.Common.{◌≡◌, cond, map, get_or, rules, sym, ap, ◌∙◌, ap₂, arith}
 use Rattle.graphs.specs.Cuts.{turned}
-use Rattle.tree_stories.specs.Assembly.{agree, levelled}
+use Rattle.stories.specs.Assembly.{agree, levelled}
 use Rattle.topology.specs.Matrices.{entry}
 use Rattle.topology.specs.Rows.{sign_of}
 use Rattle.assembly.specs.Frames.{gathered}

@@ -1,5 +1,5 @@
 use Rattle.std.proofs.Common.{◌≡◌, ap, ◌∙◌, arith}
-use Rattle.tree_stories.specs.Assembly.{through, right_of}
+use Rattle.stories.specs.Assembly.{through, right_of}
 use Rattle.assembly.proofs.Reading.{right_turn}
 use Rattle.assembly.proofs.Turns.{none_made, one_more, all_made}
 use Rattle.assembly.proofs.setting.Setting.right_of.Goals as goal

@@ -1,6 +1,6 @@
 use Rattle.std.proofs.Common.{◌≡◌}
 use Rattle.graphs.specs.Graph.{◌∈◌}
-use Rattle.tree_stories.specs.Assembly.{through, Parts}
+use Rattle.stories.specs.Assembly.{through, Parts}
 use Rattle.assembly.specs.Frames.{Sets}
 use Rattle.assembly.proofs.Reading.{right_turn}
 use Rattle.assembly.proofs.setting.Setting.right_of.Given as goal

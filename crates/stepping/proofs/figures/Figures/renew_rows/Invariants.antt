@@ -1,6 +1,6 @@
 use Rattle.std.proofs.Common.{◌≡◌, map}
 use Rattle.sheet.specs.Meanings.{meant_row}
-use Rattle.tree_stories.specs.Assembly.{through}
+use Rattle.stories.specs.Assembly.{through}
 use Rattle.stepping.specs.Steps.{renewed_at, given, Others}
 use Rattle.stepping.proofs.figures.Figures.renew_rows.Given as given'
 
