@@ -1,7 +1,7 @@
 // The engine's answers as a stream writes them.
 use crate::figure::Figure;
 use figures::Trace;
-use sheet::Refusal;
+use sheet::{Refusal, Shown};
 use std::fmt;
 
 // A slip has at most so many bytes.
@@ -21,11 +21,8 @@ impl fmt::Display for Answer {
 }
 
 fn show_refusal<W: fmt::Write>(refusal: Refusal, f: &mut fmt::Formatter<W>) -> fmt::Result {
-    let number = refusal.number();
-    write!(f, "refused {number}")?;
-    if let Some(shown) = refusal.shown() {
-        let members = shown.members;
-        let against = shown.against;
+    write!(f, "refused {refusal}")?;
+    if let Some(Shown { members, against }) = refusal.shown() {
         write!(f, " {members:08x} {against:08x}")?;
     }
     Ok(())
@@ -41,8 +38,7 @@ pub(crate) struct RowAnswer<N> {
 
 impl<N: Figure> fmt::Display for RowAnswer<N> {
     fn fmt<W: fmt::Write>(&self, f: &mut fmt::Formatter<W>) -> fmt::Result {
-        let number = self.number;
-        write!(f, "row {number} ")?;
+        write!(f, "row {} ", self.number)?;
         self.current.show(f)?;
         f.write_str(" ")?;
         self.voltage.show(f)
@@ -92,8 +88,7 @@ pub(crate) struct ReadingAnswer {
 
 impl fmt::Display for ReadingAnswer {
     fn fmt<W: fmt::Write>(&self, f: &mut fmt::Formatter<W>) -> fmt::Result {
-        let number = self.number;
-        write!(f, "reading {number} ")?;
+        write!(f, "reading {} ", self.number)?;
         match self.reading {
             Ok(reading) => write!(f, "{reading}"),
             Err(refusal) => show_refusal(refusal, f),
@@ -110,14 +105,12 @@ pub(crate) struct TraceAnswer {
 
 impl fmt::Display for TraceAnswer {
     fn fmt<W: fmt::Write>(&self, f: &mut fmt::Formatter<W>) -> fmt::Result {
-        let number = self.number;
-        let count = self.trace.count();
-        write!(f, "trace {number} ")?;
+        write!(f, "trace {} ", self.number)?;
         self.trace.least().show(f)?;
         f.write_str(" ")?;
         self.trace.greatest().show(f)?;
         f.write_str(" ")?;
         self.trace.last().show(f)?;
-        write!(f, " {count}")
+        write!(f, " {}", self.trace.count())
     }
 }

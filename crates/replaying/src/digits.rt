@@ -1,12 +1,6 @@
 // Numbers of a stream's words.
 
-fn decimal_digit(byte: u8) -> Option<u32> {
-    match byte {
-        b'0'..=b'9' => Some(u32::from(byte - b'0')),
-        _ => None,
-    }
-}
-
+// Small letters alone.
 fn hexadecimal_digit(byte: u8) -> Option<u64> {
     match byte {
         b'0'..=b'9' => Some(u64::from(byte - b'0')),
@@ -20,12 +14,10 @@ pub(crate) fn decimal(text: &[u8]) -> Option<u32> {
     if text.is_empty() {
         return None;
     }
-    let mut n: u32 = 0;
-    for byte in text {
-        let digit = decimal_digit(*byte)?;
-        n = n.checked_mul(10)?.checked_add(digit)?;
-    }
-    Some(n)
+    text.iter().try_fold(0, |n: u32, byte| {
+        let digit = char::from(*byte).to_digit(10)?;
+        n.checked_mul(10)?.checked_add(digit)
+    })
 }
 
 // The number that so many hexadecimal digits write.
@@ -33,9 +25,6 @@ pub(crate) fn hexadecimal(text: &[u8], count: usize) -> Option<u64> {
     if text.len() != count {
         return None;
     }
-    let mut n = 0;
-    for byte in text {
-        n = n << 4 | hexadecimal_digit(*byte)?;
-    }
-    Some(n)
+    text.iter()
+        .try_fold(0, |n: u64, byte| Some(n << 4 | hexadecimal_digit(*byte)?))
 }

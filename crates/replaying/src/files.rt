@@ -1,5 +1,5 @@
 // The replay of a card file.
-use crate::stop::{Stop, Text, expect, readable};
+use crate::stop::{Stop, Text, expect};
 use crate::stream::Stream;
 use crate::words::Words;
 use printed_key::whole_key;
@@ -26,10 +26,11 @@ fn expect_key(stream: &mut Stream, key: &str) -> Result<(), Stop> {
 
 // A file, whose first line is read, and its key.
 pub(crate) fn replay_file(heap: Global, stream: &mut Stream, line: &[u8]) -> Result<(), Stop> {
-    let length = readable(length_of(line, b"file"))?;
-    let cards = readable(stream.block(length))?;
+    let length = length_of(line, b"file").ok_or(Stop::Unreadable)?;
+    let cards = stream.block(length).ok_or(Stop::Unreadable)?;
     let key = whole_key(heap, cards)?;
-    let length = readable(length_of(readable(stream.line())?, b"key"))?;
+    let line = stream.line().ok_or(Stop::Unreadable)?;
+    let length = length_of(line, b"key").ok_or(Stop::Unreadable)?;
     expect_key(stream, key.as_str())?;
     let found = key.len();
     if length != found {

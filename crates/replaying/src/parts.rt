@@ -1,7 +1,7 @@
 // The replay of a stream.
 use crate::files::replay_file;
 use crate::progress::{Progress, Report};
-use crate::stop::{Stop, readable};
+use crate::stop::Stop;
 use crate::stories::replay_story;
 use crate::stream::Stream;
 use std::alloc::Global;
@@ -24,7 +24,7 @@ fn replay_part(
 // Every part up to the line `end`, after which nothing may come.
 fn replay_parts(heap: Global, stream: &mut Stream, progress: &mut Progress) -> Result<(), Stop> {
     for _ in 0..stream.left() {
-        let line = readable(stream.line())?;
+        let line = stream.line().ok_or(Stop::Unreadable)?;
         if line == b"end".as_slice() {
             break;
         }

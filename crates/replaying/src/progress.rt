@@ -2,20 +2,18 @@
 use crate::stop::Stop;
 use std::fmt;
 
-// The part that is replayed.
 #[derive(Clone, Copy)]
 pub(crate) enum Part {
-    Neither,
     File,
     Story,
 }
 
-// How many files and stories are begun, and which of them is the last.
+// How many files and stories are begun, and the part that is replayed.
 #[derive(Clone, Copy)]
 pub(crate) struct Progress {
     pub(crate) files: u32,
     pub(crate) stories: u32,
-    pub(crate) part: Part,
+    pub(crate) part: Option<Part>,
 }
 
 impl Progress {
@@ -23,29 +21,27 @@ impl Progress {
         Progress {
             files: 0,
             stories: 0,
-            part: Part::Neither,
+            part: None,
         }
     }
 
     pub(crate) fn begin_file(&mut self) {
         self.files = self.files.saturating_add(1);
-        self.part = Part::File;
+        self.part = Some(Part::File);
     }
 
     pub(crate) fn begin_story(&mut self) {
         self.stories = self.stories.saturating_add(1);
-        self.part = Part::Story;
+        self.part = Some(Part::Story);
     }
 }
 
 impl fmt::Display for Progress {
     fn fmt<W: fmt::Write>(&self, f: &mut fmt::Formatter<W>) -> fmt::Result {
-        let files = self.files;
-        let stories = self.stories;
         match self.part {
-            Part::Neither => f.write_str("stream"),
-            Part::File => write!(f, "file {files}"),
-            Part::Story => write!(f, "story {stories}"),
+            None => f.write_str("stream"),
+            Some(Part::File) => write!(f, "file {}", self.files),
+            Some(Part::Story) => write!(f, "story {}", self.stories),
         }
     }
 }
@@ -54,18 +50,18 @@ impl fmt::Display for Progress {
 #[derive(Drop)]
 pub struct Report {
     pub(crate) progress: Progress,
-    pub(crate) lines: u32,
+    pub(crate) lines: usize,
     pub(crate) end: Result<(), Stop>,
 }
 
 impl fmt::Display for Report {
     fn fmt<W: fmt::Write>(&self, f: &mut fmt::Formatter<W>) -> fmt::Result {
-        let Progress { files, stories, .. } = self.progress;
-        let progress = self.progress;
-        let lines = self.lines;
         match &self.end {
-            Ok(()) => write!(f, "{files} files, {stories} stories, no difference"),
-            Err(stop) => write!(f, "{progress}, line {lines}: {stop}"),
+            Ok(()) => {
+                let Progress { files, stories, .. } = self.progress;
+                write!(f, "{files} files, {stories} stories, no difference")
+            }
+            Err(stop) => write!(f, "{}, line {}: {stop}", self.progress, self.lines),
         }
     }
 }

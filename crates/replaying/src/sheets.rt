@@ -15,35 +15,21 @@ pub(crate) struct Sheet<N> {
 impl<N: Arithmetic> Sheet<N> {
     // An empty plan with rows of zeros.
     pub(crate) fn blank() -> Sheet<N> {
-        let zero = N::zero();
-        let row = Row {
-            value: zero,
-            start: zero,
-            current: zero,
-            voltage: zero,
-        };
         Sheet {
             plan: Plan::empty(),
-            rows: [row; MOST_ROWS],
-            area: [zero; MOST_PLACES],
+            rows: [Row::zero(); MOST_ROWS],
+            area: [N::zero(); MOST_PLACES],
         }
     }
 
     // The rows of the plan.
     pub(crate) fn rows(&self) -> &[Row<N>] {
-        let rows = &self.rows[..];
-        &rows[0..32]
+        &self.rows[..32]
     }
 
     // Makes a call.
     pub(crate) fn answer(&mut self, call: Call<N>) -> Result<(), Refusal> {
         make(&mut self.plan, &mut self.rows, &mut self.area, call)
-    }
-}
-
-fn fill<N: Copy>(area: &mut [N], value: N) {
-    for place in area.iter_mut() {
-        *place = value;
     }
 }
 
@@ -62,7 +48,7 @@ fn make<N: Arithmetic>(
         Deed::Lift(number) => plan.lift(rows, number),
         Deed::Set(number, value) => plan.set(rows, number, value),
         Deed::Step(places, h) => {
-            fill(area, N::one());
+            area.fill(N::one());
             let lent = places.min(area.len());
             step(plan, rows, h, &mut area[0..lent])
         }

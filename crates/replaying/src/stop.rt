@@ -40,17 +40,9 @@ impl fmt::Display for Stop {
     }
 }
 
-// What was read, unless the stream does not follow its format.
-pub(crate) fn readable<T>(read: Option<T>) -> Result<T, Stop> {
-    match read {
-        Some(value) => Ok(value),
-        None => Err(Stop::Unreadable),
-    }
-}
-
 // The next line has to be this answer.
 pub(crate) fn expect<D: fmt::Display + Drop>(stream: &mut Stream, answer: D) -> Result<(), Stop> {
-    let line = readable(stream.line())?;
+    let line = stream.line().ok_or(Stop::Unreadable)?;
     let found = Text::of(answer);
     if line == found.as_str().as_bytes() {
         return Ok(());

@@ -3,7 +3,7 @@ use crate::answers::{Answer, ReadingAnswer, RowAnswer, SLIP, SlipAnswer, TraceAn
 use crate::call::Call;
 use crate::figure::Figure;
 use crate::sheets::Sheet;
-use crate::stop::{Stop, expect, readable};
+use crate::stop::{Stop, expect};
 use crate::stream::Stream;
 use crate::words::Words;
 use arithmetic::Arithmetic;
@@ -17,8 +17,7 @@ const PLACES: u32 = 32;
 fn expect_rows<N: Arithmetic + Figure>(stream: &mut Stream, sheet: &Sheet<N>) -> Result<(), Stop> {
     for number in 0..PLACES {
         if let Some(look) = sheet.plan.look(sheet.rows(), number) {
-            let current = look.current;
-            let voltage = look.voltage;
+            let (current, voltage) = (look.current, look.voltage);
             expect(
                 stream,
                 RowAnswer {
@@ -32,55 +31,50 @@ fn expect_rows<N: Arithmetic + Figure>(stream: &mut Stream, sheet: &Sheet<N>) ->
     Ok(())
 }
 
-// One call and its answer. Tells whether it was a granted step.
-fn replay_call<N: Arithmetic + Figure>(
+// One call and its answer. A granted step is shown to `stepped`.
+fn replay_call<N: Arithmetic + Figure, F: FnMut(&Sheet<N>)>(
     stream: &mut Stream,
     sheet: &mut Sheet<N>,
-) -> Result<bool, Stop> {
-    let line = readable(stream.line())?;
-    let call = readable(Call::read(line))?;
+    mut stepped: F,
+) -> Result<(), Stop>
+    requires { F.IsAlwaysCallable stepped }
+{
+    let line = stream.line().ok_or(Stop::Unreadable)?;
+    let call = Call::read(line).ok_or(Stop::Unreadable)?;
     let is_step = call.deed.is_step();
     let answer = sheet.answer(call);
     expect(stream, Answer(answer))?;
-    if !is_step {
-        return Ok(false);
-    }
-    expect_rows(stream, sheet)?;
-    Ok(answer.is_ok())
-}
-
-// Every call up to the line of the slip. After each granted step the trace takes the voltage of the traced place.
-fn replay_calls<N: Arithmetic + Figure>(
-    stream: &mut Stream,
-    sheet: &mut Sheet<N>,
-) -> Result<(), Stop> {
-    for _ in 0..stream.left() {
-        if stream.is_at(b"slip ") {
-            break;
+    if is_step {
+        expect_rows(stream, sheet)?;
+        if answer.is_ok() {
+            stepped(sheet);
         }
-        let _ = replay_call(stream, sheet)?;
     }
     Ok(())
 }
 
-fn take(trace: &mut Trace, sheet: &Sheet<f64>, traced: u32) {
-    if let Some(look) = sheet.plan.look(sheet.rows(), traced) {
-        let _ = trace.take(look.voltage);
-    }
-}
-
-// The same, and after each granted step the trace takes the voltage of the traced place.
-fn replay_traced(stream: &mut Stream, sheet: &mut Sheet<f64>, traced: u32) -> Result<Trace, Stop> {
-    let mut trace = Trace::fresh();
+// Every call up to the line of the slip.
+fn replay_calls<N: Arithmetic + Figure, F: FnMut(&Sheet<N>)>(
+    stream: &mut Stream,
+    sheet: &mut Sheet<N>,
+    mut stepped: F,
+) -> Result<(), Stop>
+    requires { F.IsAlwaysCallable stepped }
+{
     for _ in 0..stream.left() {
         if stream.is_at(b"slip ") {
             break;
         }
-        if replay_call(stream, sheet)? {
-            take(&mut trace, sheet, traced);
-        }
+        replay_call(stream, sheet, &mut stepped)?;
     }
-    Ok(trace)
+    Ok(())
+}
+
+// After each granted step the trace takes the voltage of the traced place.
+fn take(trace: &mut Trace, sheet: &Sheet<f64>, traced: u32) {
+    if let Some(look) = sheet.plan.look(sheet.rows(), traced) {
+        let _ = trace.take(look.voltage);
+    }
 }
 
 // The slip of the plan, in an area that was not zero.
@@ -103,7 +97,8 @@ fn expect_readings(stream: &mut Stream, sheet: &Sheet<f64>) -> Result<(), Stop> 
 
 fn replay_binary64(stream: &mut Stream, traced: u32) -> Result<(), Stop> {
     let mut sheet = Sheet::blank();
-    let trace = replay_traced(stream, &mut sheet, traced)?;
+    let mut trace = Trace::fresh();
+    replay_calls(stream, &mut sheet, |sheet| take(&mut trace, sheet, traced))?;
     expect_slip(stream, &sheet)?;
     expect_readings(stream, &sheet)?;
     expect(
@@ -117,7 +112,7 @@ fn replay_binary64(stream: &mut Stream, traced: u32) -> Result<(), Stop> {
 
 fn replay_residues(stream: &mut Stream) -> Result<(), Stop> {
     let mut sheet = Sheet::<u16>::blank();
-    replay_calls(stream, &mut sheet)?;
+    replay_calls(stream, &mut sheet, |_| {})?;
     expect_slip(stream, &sheet)
 }
 
@@ -138,7 +133,7 @@ fn traced_place(line: &[u8]) -> Option<Option<u32>> {
 
 // A story, whose first line is read.
 pub(crate) fn replay_story(stream: &mut Stream, line: &[u8]) -> Result<(), Stop> {
-    match readable(traced_place(line))? {
+    match traced_place(line).ok_or(Stop::Unreadable)? {
         Some(traced) => replay_binary64(stream, traced),
         None => replay_residues(stream),
     }

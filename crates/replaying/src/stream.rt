@@ -1,36 +1,15 @@
 // Reading a stream line by line.
-ghost use Rattle.std.specs.Prelude.{◌≤◌, length};
-
 const LINE_END: u8 = b'\n';
 
-// How many bytes stand before the first `stop`: all of them where there is none.
-pub(crate) fn until(bytes: &[u8], stop: u8) -> usize
-    ensures { result ≤ length bytes.now }
-{
-    for (n, b) in bytes.iter().enumerate() {
-        if *b == stop {
-            return n;
-        }
-    }
-    bytes.len()
-}
-
-// How many lines end in these bytes.
-fn line_ends(bytes: &[u8]) -> u32 {
-    let mut count: u32 = 0;
-    for b in bytes {
-        if *b == LINE_END {
-            count = count.saturating_add(1);
-        }
-    }
-    count
+fn is_line_end(byte: &u8) -> bool {
+    *byte == LINE_END
 }
 
 // What is left to be read of a stream, and how many lines are read.
 #[derive(Drop)]
 pub(crate) struct Stream<'a> {
     rest: &'a [u8],
-    lines: u32,
+    lines: usize,
 }
 
 impl<'a> Stream<'a> {
@@ -47,7 +26,7 @@ impl<'a> Stream<'a> {
     }
 
     // How many lines are read.
-    pub(crate) fn lines(&self) -> u32 {
+    pub(crate) fn lines(&self) -> usize {
         self.lines
     }
 
@@ -58,22 +37,16 @@ impl<'a> Stream<'a> {
 
     // The next line without its end; none where no line ends any more.
     pub(crate) fn line(&mut self) -> Option<&'a [u8]> {
-        let rest = self.rest;
-        self.block(until(rest, LINE_END))
+        let length = self.rest.iter().position(is_line_end)?;
+        self.block(length)
     }
 
     // So many bytes, before the end of a line.
     pub(crate) fn block(&mut self, length: usize) -> Option<&'a [u8]> {
-        let rest = self.rest;
-        if length >= rest.len() || rest[length] != LINE_END {
-            return None;
-        }
-        let block = &rest[0..length];
-        self.rest = &rest[length + 1..];
-        self.lines = self
-            .lines
-            .saturating_add(line_ends(block))
-            .saturating_add(1);
+        let (block, rest) = self.rest.split_at_checked(length)?;
+        self.rest = rest.strip_prefix(&[LINE_END])?;
+        let ends = block.iter().filter(|b| is_line_end(b)).count();
+        self.lines = self.lines.saturating_add(ends).saturating_add(1);
         Some(block)
     }
 }

@@ -11,29 +11,23 @@ pub(crate) struct Asked {
     pub(crate) branch: u32,
 }
 
-// The next word as a number.
 fn number(word: Option<String>) -> Option<u32> {
-    match word?.as_str().parse::<u32>() {
-        Ok(n) => Some(n),
-        Err(_) => None,
-    }
+    word?.as_str().parse().ok()
+}
+
+// The four numbers in their order.
+fn asked(words: &mut env::Args) -> Option<Asked> {
+    Some(Asked {
+        steps: number(words.next())?,
+        top: number(words.next())?,
+        bottom: number(words.next())?,
+        branch: number(words.next())?,
+    })
 }
 
 // The four numbers after the program's name.
 pub(crate) fn read_words(rt: &HostRuntime) -> anyhow::Result<Option<Asked>> {
     let mut words = env::args(rt)?;
     let _ = words.next();
-    let steps = number(words.next());
-    let top = number(words.next());
-    let bottom = number(words.next());
-    let branch = number(words.next());
-    match (steps, top, bottom, branch) {
-        (Some(steps), Some(top), Some(bottom), Some(branch)) => Ok(Some(Asked {
-            steps,
-            top,
-            bottom,
-            branch,
-        })),
-        _ => Ok(None),
-    }
+    Ok(asked(&mut words))
 }

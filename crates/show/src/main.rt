@@ -15,26 +15,17 @@ use crate::asked::{Asked, read_words};
 use crate::matrices::show_matrices;
 use crate::slip::show_slip;
 use crate::stepping_run::show_run;
-use arithmetic::Arithmetic;
 use cards::read_cards;
-use sheet::{Plan, Row};
+use sheet::{Plan, fresh_rows};
 use std::io::Read;
 
 // The longest card file that is read.
 const LONGEST: u64 = 4096;
 
 fn show(rt: &HostRuntime, asked: Asked, cards: &[u8]) -> anyhow::Result<()> {
-    let zero = <f64 as Arithmetic>::zero();
-    let row = Row {
-        value: zero,
-        start: zero,
-        current: zero,
-        voltage: zero,
-    };
-    let (mut plan, mut rows) = (Plan::empty(), [row; 32]);
+    let (mut plan, mut rows) = (Plan::empty(), fresh_rows::<f64>());
     if let Err(fault) = read_cards(cards, &mut plan, &mut rows) {
-        let number = fault.refusal.number();
-        println!(rt; "refused {number} line {} byte {}", fault.line, fault.byte)?;
+        println!(rt; "refused {} line {} byte {}", fault.refusal, fault.line, fault.byte)?;
         return Ok(());
     }
     show_matrices(rt, &plan)?;

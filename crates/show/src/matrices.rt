@@ -33,25 +33,20 @@ fn show_node(rt: &HostRuntime, plan: &Plan, node: u32) -> anyhow::Result<()> {
     Ok(())
 }
 
-// The refusal in place of the loop and cut matrices.
-fn show_refusal(rt: &HostRuntime, refusal: Refusal) -> anyhow::Result<()> {
-    let number = refusal.number();
-    println!(rt; "refused {number}")?;
-    Ok(())
-}
-
-fn show_loop(rt: &HostRuntime, plan: &Plan, k: u32) -> anyhow::Result<()> {
-    if let Ok(Some(row)) = loop_row(plan, k) {
-        print!(rt; "loop {k}")?;
-        show_row(rt, plan, row)?;
-    }
-    Ok(())
-}
-
-fn show_cut(rt: &HostRuntime, plan: &Plan, k: u32) -> anyhow::Result<()> {
-    if let Ok(Some(row)) = cut_row(plan, k) {
-        print!(rt; "cut {k}")?;
-        show_row(rt, plan, row)?;
+// A line for each number that has a row.
+fn show_rows<F: Fn(u32) -> Result<Option<Shown>, Refusal>>(
+    rt: &HostRuntime,
+    plan: &Plan,
+    name: &str,
+    row_of: F,
+) -> anyhow::Result<()>
+    requires { F.IsAlwaysCallable row_of }
+{
+    for k in 0..32 {
+        if let Ok(Some(row)) = row_of(k) {
+            print!(rt; "{name} {k}")?;
+            show_row(rt, plan, row)?;
+        }
     }
     Ok(())
 }
@@ -61,13 +56,9 @@ pub(crate) fn show_matrices(rt: &HostRuntime, plan: &Plan) -> anyhow::Result<()>
         show_node(rt, plan, node)?;
     }
     if let Err(refusal) = tree(plan) {
-        return show_refusal(rt, refusal);
+        println!(rt; "refused {refusal}")?;
+        return Ok(());
     }
-    for k in 0..32 {
-        show_loop(rt, plan, k)?;
-    }
-    for k in 0..32 {
-        show_cut(rt, plan, k)?;
-    }
-    Ok(())
+    show_rows(rt, plan, "loop", |k| loop_row(plan, k))?;
+    show_rows(rt, plan, "cut", |k| cut_row(plan, k))
 }

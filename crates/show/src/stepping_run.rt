@@ -22,10 +22,7 @@ fn show_head(rt: &HostRuntime, plan: &Plan) -> anyhow::Result<()> {
 fn show_thousandths(rt: &HostRuntime, voltage: f64) -> anyhow::Result<()> {
     match reading_of(voltage) {
         Ok(thousandths) => print!(rt; " {thousandths}")?,
-        Err(refusal) => {
-            let number = refusal.number();
-            print!(rt; " refused-{number}")?;
-        }
+        Err(refusal) => print!(rt; " refused-{refusal}")?,
     }
     Ok(())
 }
@@ -59,8 +56,7 @@ fn show_trace(rt: &HostRuntime, branch: u32, trace: Trace) -> anyhow::Result<()>
     show_thousandths(rt, trace.least())?;
     show_thousandths(rt, trace.greatest())?;
     show_thousandths(rt, trace.last())?;
-    let count = trace.count();
-    println!(rt; " {count}")?;
+    println!(rt; " {}", trace.count())?;
     Ok(())
 }
 
@@ -77,14 +73,13 @@ pub(crate) fn show_run(
 ) -> anyhow::Result<()> {
     let top = <f64 as Arithmetic>::whole(asked.top as u64);
     let bottom = <f64 as Arithmetic>::whole(asked.bottom as u64);
-    let h = <f64 as Arithmetic>::quotient(top, bottom);
+    let h = top.quotient(bottom);
     let mut trace = Trace::fresh();
     show_head(rt, plan)?;
     show_readings(rt, plan, rows, 0)?;
     for k in 0..asked.steps {
         if let Err(refusal) = take_step(plan, rows, h) {
-            let number = refusal.number();
-            println!(rt; "refused {number}")?;
+            println!(rt; "refused {refusal}")?;
             return Ok(());
         }
         let _ = take(plan, rows, asked.branch, &mut trace);
