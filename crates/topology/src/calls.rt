@@ -58,10 +58,9 @@ pub fn incidence(plan: &Plan, node: u32, branch: u32) -> Sign
     ensures meaning { IncidenceAnswer plan.now node branch (sign_of result) }
 {
     let node = node as usize;
-    difference(
-        node == tail(plan, branch).number,
-        node == head(plan, branch).number,
-    )
+    let tail = tail(plan, branch);
+    let head = head(plan, branch);
+    difference(node == tail.number, node == head.number)
 }
 
 // The rows of a granted tree as matrices, summed in any abelian group on `N`.

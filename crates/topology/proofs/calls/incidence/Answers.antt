@@ -9,5 +9,5 @@ returns c =
     let p = c.args.plan.now in
     let x = c.args.node in
     let k = c.args.branch in
-    let e = c.difference.ensures ∙ (λ i. diff (eqb x (c.tail.ensures i)) (eqb x (c.head.ensures i))) in
+    let e = c.difference.ensures ∙ (λ i. diff (eqb x (c.tail-tail.ensures i)) (eqb x (c.head-head.ensures i))) in
     record { answer = e; meaning = subst (IncidenceAnswer p x k) (sym e) (incidence-answer p x k) }
