@@ -60,7 +60,7 @@ impl SlipWriter<'_> {
         if area.len() < 280 {
             return Err(Refusal::SlipAreaShort);
         }
-        Ok((counters.at + 7) / 8)
+        Ok(counters.at.div_ceil(8))
     }
 }
 
