@@ -1,10 +1,11 @@
 -- One step of length 1, from what the call of a step promises.
-use Rattle.std.proofs.Common.{◌≡◌, ℕ, Bool, true, false, not, ◌&&◌, ◌||◌, eqb, ltb, List, [], ◌∷◌, map, length, replicate, Option, sym, refl, ap, ◌∙◌, arith}
+use Rattle.std.proofs.Common.{◌≡◌, ℕ, Bool, true, false, not, ◌&&◌, ◌||◌, eqb, ltb, List, map, length, replicate, Option, sym, refl, ap, ◌∙◌}
+use Rattle.std.proofs.lemmas.List.{map-id}
 use lib.Ieee.{Float}
 use Rattle.arithmetic.specs.Binary64.{binary64_ops}
 use Rattle.arithmetic.specs.Ops.{Ops, may_divide}
 use Rattle.cards.specs.Following.{blank_sheet}
-use Rattle.cards.specs.Reading.{Named, State}
+use Rattle.cards.specs.Reading.{Named, State, cards_read}
 use Rattle.sheet.specs.declared.plan.Plan.{Plan}
 use Rattle.sheet.specs.declared.row.Row.{Row}
 use Rattle.sheet.specs.Calls.{Sheet, left, zero_row}
@@ -16,14 +17,12 @@ use Rattle.stories.specs.Steps.{renewed_rows, solving, step_parts, step_result, 
 use Rattle.topology.specs.Trees.{tree_of}
 use Rattle.printed_key.specs.Blocks.{one_step}
 
--- a float is its own meaning
-pub own_meaning : (rows : List (Row Float)) → map (meant_row (λ x. x)) rows ≡ rows
-own_meaning [] = refl
-own_meaning (r ∷ rows) = ap (λ rs. r ∷ rs) (own_meaning rows)
-
--- the sheet that reading begins with
-pub blank_begun : {M : Type 0} (o : Ops M) (p : Plan) (rows : List (Row M)) → p ≡ empty_plan → rows ≡ replicate 32 (zero_row (meanings o)) → ◌≡◌ {A = Sheet M} (record { plan = p; rows = rows }) (blank_sheet o)
-blank_begun o p rows e f = ap (λ x. record { plan = x; rows = rows }) e ∙ ap (λ x. record { plan = empty_plan; rows = x }) f
+-- what is read onto an empty plan and fresh rows
+pub read_from_blank :
+    {M : Type 0} (o : Ops M) (input : List ℕ) (st : State M) (p : Plan) (rows : List (Row M)) →
+    st ≡ cards_read o input (record { plan = p; rows = rows }) → p ≡ empty_plan → rows ≡ replicate 32 (zero_row (meanings o)) → st ≡ cards_read o input (blank_sheet o)
+read_from_blank o input st p rows r e f =
+    r ∙ ap (λ x. cards_read o input (record { plan = x; rows = rows })) e ∙ ap (λ x. cards_read o input (record { plan = empty_plan; rows = x })) f
 
 module _ {M : Type 0} where
   kept :
@@ -43,11 +42,11 @@ module _ {M : Type 0} where
 
   passed : (s : Sheet M) (a : Answer (Sheet M)) → pass ≡ verdict_of a → a ≡ granted (left s a)
   passed s (granted t) e = refl
-  passed s (refused t) e = let z : ◌≡◌ {A = ℕ} 0 1 = cc in absurd (omega arith)
+  passed s (refused t) e = cc
 
   failed : (a : Answer (Sheet M)) (t : Told) → fail t ≡ verdict_of a → refused t ≡ a
-  failed (granted u) t e = let z : ◌≡◌ {A = ℕ} 0 1 = cc in absurd (omega arith)
-  failed (refused u) t e = let z : t ≡ u = cc in ap refused z
+  failed (granted u) t e = cc
+  failed (refused u) t e = cc
 
 module _ {V M : Type 0} (o : Ops M) (mean : V → M) (nil : V) (plan : Plan) (rows : List (Row V)) (h : V) (work : List V) (rows' : List (Row V)) (work' : List V) where
   abbrev before : Sheet M
@@ -79,17 +78,17 @@ module _ (nil : Float) (plan : Plan) (rows : List (Row Float)) (h : Float) (work
       length rows ≡ 32 → length work ≡ 304 → h ≡ binary64_ops.one → StepDoes binary64_ops (λ x. x) nil plan rows h work pass rows' work' →
       granted (at_start rows') ≡ one_step binary64_ops (at_start rows)
   float-passed n a e d =
-      ap (λ r. granted (at_start r)) (sym (own_meaning rows'))
+      ap (λ r. granted (at_start r)) (sym (map-id rows'))
       ∙ step-passed binary64_ops (λ x. x) nil plan rows h work rows' work' n a e d
-      ∙ ap (λ r. one_step binary64_ops (at_start r)) (own_meaning rows)
+      ∙ ap (λ r. one_step binary64_ops (at_start r)) (map-id rows)
 
   pub float-failed :
       (t : Told) → length rows ≡ 32 → length work ≡ 304 → h ≡ binary64_ops.one → StepDoes binary64_ops (λ x. x) nil plan rows h work (fail t) rows' work' →
       refused t ≡ one_step binary64_ops (at_start rows)
   float-failed t n a e d =
       step-failed binary64_ops (λ x. x) nil plan rows h work rows' work' t n a e d
-      ∙ ap (λ r. one_step binary64_ops (at_start r)) (own_meaning rows)
+      ∙ ap (λ r. one_step binary64_ops (at_start r)) (map-id rows)
 
--- the sheet that reading floats leaves
+-- the sheet that reading floats leaves: a float is its own meaning
 pub float_state : (f : Option Named) (p : Plan) (rows : List (Row Float)) → ◌≡◌ {A = State Float} (record { fault = f; sheet = record { plan = p; rows = map (meant_row (λ x. x)) rows } }) (record { fault = f; sheet = record { plan = p; rows = rows } })
-float_state f p rows = ap (λ r. record { fault = f; sheet = record { plan = p; rows = r } }) (own_meaning rows)
+float_state f p rows = ap (λ r. record { fault = f; sheet = record { plan = p; rows = r } }) (map-id rows)

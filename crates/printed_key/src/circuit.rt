@@ -1,12 +1,11 @@
 // The circuit that a key is printed of.
-ghost use Rattle.std.specs.Prelude.{◌≡◌, List};
+ghost use Rattle.std.specs.Prelude.{◌≡◌};
 ghost use Rattle.printed_key.specs.Key.{Blocks, lines_by, lines_read};
 
 use crate::LONGEST;
-use crate::sheets::fresh_rows;
 use crate::stop::Stop;
 use cards::read_cards;
-use sheet::{Plan, Refusal, Row};
+use sheet::{Plan, Refusal, Row, fresh_rows};
 use topology::tree;
 
 // A sheet that was read from cards, with its tree.

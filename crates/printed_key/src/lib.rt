@@ -9,7 +9,6 @@ mod circuit;
 mod network;
 mod readings;
 mod residues;
-mod sheets;
 mod stop;
 mod words;
 
@@ -17,7 +16,6 @@ use circuit::read_circuit;
 use network::push_network;
 use readings::push_readings;
 use residues::push_residues;
-pub use sheets::fresh_rows;
 use std::alloc::{AllocError, Global};
 
 // The longest input, in bytes.

@@ -5,11 +5,10 @@ ghost use Rattle.printed_key.specs.Blocks.{remainder_lines, residue_lines, resid
 ghost use Rattle.printed_key.specs.Text.{Adds, text_of};
 ghost use Rattle.sheet.specs.Meanings.{meant_sheet};
 
-use crate::sheets::fresh_rows;
 use crate::stop::Stop;
 use arithmetic::{Arithmetic, remainder_of};
 use cards::read_cards;
-use sheet::{Plan, Row};
+use sheet::{Plan, Row, fresh_rows};
 use std::alloc::AllocError;
 use stepping::step;
 

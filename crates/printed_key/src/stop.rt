@@ -39,16 +39,13 @@ impl fmt::Display for Stop {
 
     fn fmt<W: fmt::Write>(&self, f: &mut fmt::Formatter<W>) -> fmt::Result {
         match *self {
-            Stop::Refused(refusal) => {
-                let number = refusal.number();
-                match refusal.shown() {
-                    Some(shown) => write!(f, "refused {number}{}", Signed(shown)),
-                    None => write!(f, "refused {number}"),
-                }
-            }
+            Stop::Refused(refusal) => match refusal.shown() {
+                Some(shown) => write!(f, "refused {refusal}{}", Signed(shown)),
+                None => write!(f, "refused {refusal}"),
+            },
             Stop::Faulty(fault) => {
-                let (number, line, byte) = (fault.refusal.number(), fault.line, fault.byte);
-                write!(f, "refused {number} line {line} byte {byte}")
+                let (refusal, line, byte) = (fault.refusal, fault.line, fault.byte);
+                write!(f, "refused {refusal} line {line} byte {byte}")
             }
         }
     }

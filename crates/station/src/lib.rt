@@ -7,8 +7,8 @@ ghost use Rattle.sheet.specs.Refusals.{told};
 ghost use Rattle.station.specs.Station.{in_front, Keyed, mark, mark_of};
 
 use cards::read_cards;
-use printed_key::{LONGEST, fresh_rows, whole_key};
-use sheet::{Plan, Refusal};
+use printed_key::{LONGEST, whole_key};
+use sheet::{Plan, Refusal, fresh_rows};
 use std::alloc::Global;
 use topology::tree;
 

@@ -6,7 +6,7 @@ use Rattle.arithmetic.specs.Binary64.{binary64_ops}
 use Rattle.cards.specs.Following.{blank_sheet}
 use Rattle.cards.specs.Reading.{State, cards_read}
 use Rattle.sheet.specs.Refusals.{told}
-use Rattle.printed_key.proofs.Stepping.{blank_begun}
+use Rattle.printed_key.proofs.Stepping.{read_from_blank}
 use Rattle.station.specs.Station.{mark, state_mark, mark_of}
 use Rattle.station.proofs.check_circuit.Goals as goal
 
@@ -27,7 +27,7 @@ pub returns-in-Err : goal.returns-in-Err
 returns-in-Err c =
     let cards = c.args.cards.now in
     let fits : length cards ≤ 4096 = omega arith in
-    short_mark cards _ fits (c.in-Err.ensures.reads ∙ ap (cards_read binary64_ops cards) (blank_begun binary64_ops _ _ c.empty-plan.ensures c.fresh_rows-rows.ensures))
+    short_mark cards _ fits (read_from_blank binary64_ops cards _ _ _ c.in-Err.ensures.reads c.empty-plan.ensures c.fresh_rows-rows.ensures.meant)
 
 pub returns-in_err-tree : goal.returns-in_err-tree
 returns-in_err-tree c =
@@ -35,11 +35,11 @@ returns-in_err-tree c =
     let fits : length cards ≤ 4096 = omega arith in
     let q = err_from_is_err_and c.from_residual.result c.from_residual.ensures.1 in
     ap (λ r. mark (told r)) (q.1 ∙ ap Err q.2) ∙ ap mark c.in_err-tree.ensures.answer
-    ∙ short_mark cards _ fits (c.in_default.ensures.reads ∙ ap (cards_read binary64_ops cards) (blank_begun binary64_ops _ _ c.empty-plan.ensures c.fresh_rows-rows.ensures))
+    ∙ short_mark cards _ fits (read_from_blank binary64_ops cards _ _ _ c.in_default.ensures.reads c.empty-plan.ensures c.fresh_rows-rows.ensures.meant)
 
 pub returns : goal.returns
 returns c =
     let cards = c.args.cards.now in
     let fits : length cards ≤ 4096 = omega arith in
     ap mark c.in_ok-tree.ensures.answer
-    ∙ short_mark cards _ fits (c.in_default.ensures.reads ∙ ap (cards_read binary64_ops cards) (blank_begun binary64_ops _ _ c.empty-plan.ensures c.fresh_rows-rows.ensures))
+    ∙ short_mark cards _ fits (read_from_blank binary64_ops cards _ _ _ c.in_default.ensures.reads c.empty-plan.ensures c.fresh_rows-rows.ensures.meant)
