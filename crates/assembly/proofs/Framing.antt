@@ -26,7 +26,7 @@ passive_kind Capacitor = refl
 passive_kind VoltageSource = refl
 passive_kind CurrentSource = refl
 
-feeding_kind : (x : Kind) → ((true && leb (kind_class x) 4) && not (true && leb (kind_class x) 0)) ≡ (is_passive (Some x) || is_current (Some x))
+feeding_kind : (x : Kind) → (true && not (true && leb (kind_class x) 0)) ≡ (is_passive (Some x) || is_current (Some x))
 feeding_kind Resistor = refl
 feeding_kind Inductor = refl
 feeding_kind Capacitor = refl
@@ -43,24 +43,8 @@ fixed_kind CurrentSource = refl
 pub passive_is : (p : Plan) (k : ℕ) → (up_to (class_at p) 3 (placed p) k && not (up_to (class_at p) 0 (placed p) k)) ≡ is_passive (kind_at p k)
 passive_is p = by_kind p (λ b c. (b && leb c 3) && not (b && leb c 0)) is_passive (λ c. refl) refl passive_kind
 
-pub feeding_is : (p : Plan) (k : ℕ) → (up_to (class_at p) 4 (placed p) k && not (up_to (class_at p) 0 (placed p) k)) ≡ (is_passive (kind_at p k) || is_current (kind_at p k))
-feeding_is p = by_kind p (λ b c. (b && leb c 4) && not (b && leb c 0)) (λ f. is_passive f || is_current f) (λ c. refl) refl feeding_kind
+pub feeding_is : (p : Plan) (k : ℕ) → (placed p k && not (up_to (class_at p) 0 (placed p) k)) ≡ (is_passive (kind_at p k) || is_current (kind_at p k))
+feeding_is p = by_kind p (λ b c. b && not (b && leb c 0)) (λ f. is_passive f || is_current f) (λ c. refl) refl feeding_kind
 
 pub fixed_is : (p : Plan) (k : ℕ) → up_to (class_at p) 0 (placed p) k ≡ is_voltage (kind_at p k)
 fixed_is p = by_kind p (λ b c. b && leb c 0) is_voltage (λ c. refl) refl fixed_kind
-
-pub placed_is : (p : Plan) (k : ℕ) → up_to (class_at p) 4 (placed p) k ≡ placed p k
-unfolding placed class_at
-placed_is p k = go (ltb k 32) (branch_at p k)
-  where
-    kinds : (x : Kind) → leb (kind_class x) 4 ≡ true
-    kinds Resistor = refl
-    kinds Inductor = refl
-    kinds Capacitor = refl
-    kinds VoltageSource = refl
-    kinds CurrentSource = refl
-
-    go : (b : Bool) (f : Option Branch) → ((b && is_some f) && leb (class_found f) 4) ≡ (b && is_some f)
-    go true None = refl
-    go true (Some x) = kinds x.kind
-    go false f = refl

@@ -9,7 +9,7 @@ ghost use Rattle.topology.specs.Words.{bits};
 
 use sheet::{Plan, Shown};
 use std::array::from_fn;
-use topology::{cut_of_branch, has, less, up_to};
+use topology::{cut_of_branch, has, less, no_current_sources, placed_branches, voltage_sources};
 
 #[derive(Clone, Copy)]
 pub struct Frame {
@@ -48,10 +48,9 @@ impl Frame {
     pub fn of(plan: &Plan, tree: u32) -> Frame
         ensures { FrameOf plan.now tree result }
     {
-        // Class 0 is the voltage sources, classes 0 to 3 are all but the current sources, classes 0 to 4 are all.
-        let fixed = up_to(plan, 0);
-        let resting = up_to(plan, 3);
-        let placed = up_to(plan, 4);
+        let fixed = voltage_sources(plan);
+        let resting = no_current_sources(plan);
+        let placed = placed_branches(plan);
         Frame {
             passive: less(resting, fixed),
             feeding: less(placed, fixed),

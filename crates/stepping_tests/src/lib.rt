@@ -4,6 +4,7 @@
 
 use arithmetic::Arithmetic;
 use sheet::{Kind, Placement, Plan, Refusal, Row};
+pub use sheet_tests::{number_of, row_of};
 use std::num::f64_to_bits_with_nan;
 use stepping::step;
 
@@ -27,24 +28,6 @@ impl Figure for u16 {
     }
 }
 
-// A row whose four values are v.
-pub fn row_of<N: Copy>(v: N) -> Row<N> {
-    Row {
-        value: v,
-        start: v,
-        current: v,
-        voltage: v,
-    }
-}
-
-// 0 for a granted call, else the refusal's number.
-pub fn number_of(answer: Result<(), Refusal>) -> u32 {
-    match answer {
-        Ok(()) => 0,
-        Err(refusal) => refusal.number(),
-    }
-}
-
 // The plan of a list of branches at the places 0, 1 and so on: kind, tail, head, value and start. The rows are blanked
 // first.
 pub fn drawn<N: Arithmetic>(
@@ -53,20 +36,18 @@ pub fn drawn<N: Arithmetic>(
 ) -> Result<Plan, Refusal> {
     let mut plan = Plan::empty();
     plan.blank(rows)?;
-    let mut number: u32 = 0;
-    for (kind, tail, head, value, start) in branches {
+    for (number, (kind, tail, head, value, start)) in (0..u32::MAX).zip(branches) {
         plan.place(
             rows,
             Placement {
                 number,
-                kind: kind.number(),
+                kind: u32::from(*kind),
                 tail: *tail,
                 head: *head,
                 value: *value,
                 start: *start,
             },
         )?;
-        number = number.saturating_add(1);
     }
     Ok(plan)
 }
@@ -79,10 +60,8 @@ pub fn shows<N: Arithmetic + Figure>(
     current: u64,
     voltage: u64,
 ) -> bool {
-    match plan.look(rows, number) {
-        Some(seen) => seen.current.code() == current && seen.voltage.code() == voltage,
-        None => false,
-    }
+    plan.look(rows, number).is_some_and(|seen| seen.current.code() == current
+        && seen.voltage.code() == voltage)
 }
 
 // Whether looks at the places 0, 1 and so on show these currents and voltages.
@@ -91,14 +70,9 @@ pub fn shows_all<N: Arithmetic + Figure>(
     rows: &[Row<N>],
     figures: &[(u64, u64)],
 ) -> bool {
-    let mut number: u32 = 0;
-    for (current, voltage) in figures {
-        if !shows(plan, rows, number, *current, *voltage) {
-            return false;
-        }
-        number = number.saturating_add(1);
-    }
-    true
+    (0..u32::MAX).zip(figures).all(|(number, (current, voltage))| shows(
+        plan, rows, number, *current, *voltage,
+    ))
 }
 
 // Whether steps of that length are all granted, and the places 0, 1 and so on show these figures after each.
@@ -135,12 +109,7 @@ pub fn are_refused<N: Arithmetic>(
 
 // Whether every place holds that figure.
 pub fn all_are<N: Figure>(places: &[N], figure: N) -> bool {
-    for place in places {
-        if place.code() != figure.code() {
-            return false;
-        }
-    }
-    true
+    places.iter().all(|place| place.code() == figure.code())
 }
 
 // Whether two rows hold the same four figures.
@@ -153,13 +122,5 @@ fn is_same_row<N: Figure>(a: Row<N>, b: Row<N>) -> bool {
 
 // Whether two row tables hold the same figures.
 pub fn are_same<N: Figure>(a: &[Row<N>], b: &[Row<N>]) -> bool {
-    if a.len() != b.len() {
-        return false;
-    }
-    for (x, y) in a.iter().zip(b.iter()) {
-        if !is_same_row(*x, *y) {
-            return false;
-        }
-    }
-    true
+    a.len() == b.len() && a.iter().zip(b).all(|(x, y)| is_same_row(*x, *y))
 }

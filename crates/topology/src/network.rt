@@ -56,7 +56,7 @@ pub(crate) fn is_of_kind(plan: &Plan, kind: Kind, k: u32) -> bool
 }
 
 // The branches whose kind passes.
-fn branches_where<F: Fn(Kind) -> bool>(plan: &Plan, passes: F) -> u32
+pub fn branches_where<F: Fn(Kind) -> bool>(plan: &Plan, passes: F) -> u32
     requires { F.IsAlwaysCallable passes }
     ensures { (test : Kind → Bool) → ((kind : Kind) (b : Bool) → F.post passes kind b → b ≡ test kind) → bits result ≡ among test plan.now }
 {
