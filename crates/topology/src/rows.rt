@@ -30,10 +30,7 @@ fn row_of<F: Fn(u32) -> Sign>(sign: F) -> Shown
     requires { F.IsAlwaysCallable sign }
     ensures { (f : ℕ → graphs.Sign) → ((k : ℕ) (x : Sign) → k < 32 → F.post sign k x → sign_of x ≡ f k) → result ≡ shown f }
 {
-    let mut row = Shown {
-        members: 0,
-        against: 0,
-    };
+    let mut row = Shown::default();
     for k in 0..32 {
         let sign = sign(k);
         row.members = insert_if(row.members, k, sign != Sign::Zero);

@@ -1,4 +1,4 @@
-use Rattle.std.proofs.Common.{◌≡◌, not, refl, subst, arith}
+use Rattle.std.proofs.Common.{rules, sym, ◌≡◌, not, refl, subst, arith}
 use denote.Enum.Bare.{sameb}
 use Rattle.topology.specs.contracts.sign.Sign.{the_type}
 use Rattle.topology.specs.declared.sign.Sign.{Sign}
@@ -18,7 +18,9 @@ is_minus Zero = refl
 is_minus Minus = refl
 
 pub loop-k-init : goal.loop-k-init
-loop-k-init g c = λ f says. gathered_none f
+loop-k-init g c = λ f says.
+    let none : c.default-row.result ≡ record { members = 0; against = 0 } = search rules in
+    subst (Gathered f 0) (sym none) (gathered_none f)
 
 pub loop-k-preserved : goal.loop-k-preserved
 loop-k-preserved g c = λ f says.
