@@ -7,4 +7,4 @@ mod faults;
 #[cfg(test)]
 mod sheets;
 
-pub use answer::{Answer, blank_row, drawing, remainders};
+pub use answer::{Answer, answer_of, in_numbers};

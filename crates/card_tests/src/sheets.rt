@@ -1,14 +1,12 @@
 // What is on the sheet after a text is read.
-use crate::answer::blank_row;
+use crate::answer::in_numbers;
 use cards::{Layer, read_cards};
-use sheet::{Plan, Row};
-use std::test::Fail;
+use sheet::{Plan, Row, fresh_rows};
 
 // A capacitor's start is its first voltage, an inductor's its first current.
 #[test]
 fn starts(rt: HostRuntime) {
-    let row: Row<f64> = blank_row();
-    let mut rows = [row; 32];
+    let mut rows = fresh_rows::<f64>();
     let mut plan = Plan::empty();
     let answer = read_cards(b"C2 2 0 1/4 -3/4\n L3 0 1 8", &mut plan, &mut rows);
     assert!(rt; answer.is_ok());
@@ -23,8 +21,7 @@ fn starts(rt: HostRuntime) {
 // A minus before zero leaves the zero that has no sign.
 #[test]
 fn minus_zero(rt: HostRuntime) {
-    let row: Row<f64> = blank_row();
-    let mut rows = [row; 32];
+    let mut rows = fresh_rows::<f64>();
     let mut plan = Plan::empty();
     let answer = read_cards(b"V0 1 0 -0/5\nI1 1 0 -6/5", &mut plan, &mut rows);
     assert!(rt; answer.is_ok());
@@ -35,8 +32,7 @@ fn minus_zero(rt: HostRuntime) {
 // Half is 4096 in remainders, and its negative 4095.
 #[test]
 fn halves(rt: HostRuntime) {
-    let row: Row<u16> = blank_row();
-    let mut rows = [row; 32];
+    let mut rows = fresh_rows::<u16>();
     let mut plan = Plan::empty();
     let answer = read_cards(b"I0 1 0 -1/2\nV1 1 0 16383/2", &mut plan, &mut rows);
     assert!(rt; answer.is_ok());
@@ -47,8 +43,7 @@ fn halves(rt: HostRuntime) {
 // The cards before a fault stay placed, and what was on the sheet before is gone.
 #[test]
 fn before_a_fault(rt: HostRuntime) {
-    let row: Row<f64> = blank_row();
-    let mut rows = [row; 32];
+    let mut rows = fresh_rows::<f64>();
     let mut plan = Plan::empty();
     let first = read_cards(b"R9 1 2 3", &mut plan, &mut rows);
     assert!(rt; first.is_ok());
@@ -62,22 +57,13 @@ fn before_a_fault(rt: HostRuntime) {
 
 // A row table of another length is refused first, and nothing is blanked.
 #[test]
-fn other_lengths(rt: HostRuntime) -> Result<(), Fail> {
-    let row: Row<f64> = blank_row();
-    let mut rows = [row; 32];
+fn other_lengths(rt: HostRuntime) {
+    let mut rows = fresh_rows::<f64>();
     let mut plan = Plan::empty();
     let first = read_cards(b"R9 1 2 3", &mut plan, &mut rows);
     assert!(rt; first.is_ok());
-    let mut few = [row; 31];
-    match read_cards(b"x", &mut plan, &mut few) {
-        Ok(()) => return Err(Fail::new("accepted")),
-        Err(fault) => {
-            assert!(rt; matches!(fault.layer, Layer::Sheet));
-            assert!(rt; fault.refusal.number() == 1);
-            assert!(rt; fault.line == 0);
-            assert!(rt; fault.byte == 0);
-        }
-    }
+    let mut few = [Row::<f64>::zero(); 31];
+    let second = read_cards(b"x", &mut plan, &mut few);
+    assert_eq!(rt; second.map_err(in_numbers), Err((Layer::Sheet, 1, 0, 0)));
     assert!(rt; plan.at(9).is_some());
-    Ok(())
 }
