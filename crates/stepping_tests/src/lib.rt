@@ -112,7 +112,7 @@ pub fn all_are<N: Figure>(places: &[N], figure: N) -> bool {
     places.iter().all(|place| place.code() == figure.code())
 }
 
-// Whether two rows hold the same four figures.
+// Whether two rows hold the same four figures, compared as figures are: a derived equality takes no NaN for itself.
 fn is_same_row<N: Figure>(a: Row<N>, b: Row<N>) -> bool {
     a.value.code() == b.value.code()
         && a.start.code() == b.start.code()
