@@ -6,5 +6,4 @@ ghost use Rattle.graphs.specs.Joint.{TheoryOfTrees};
 // `N` is the carrier of the groups in which rows are summed.
 pub fn theory_of_trees<N>()
     ensures { TheoryOfTrees N }
-{
-}
+{}

@@ -11,7 +11,7 @@ mod parts;
 mod progress;
 mod sheets;
 mod stop;
-mod stories;
+mod story;
 mod stream;
 mod words;
 

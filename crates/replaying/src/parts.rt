@@ -2,7 +2,7 @@
 use crate::files::replay_file;
 use crate::progress::{Progress, Report};
 use crate::stop::Stop;
-use crate::stories::replay_story;
+use crate::story::replay_story;
 use crate::stream::Stream;
 use std::alloc::Global;
 
