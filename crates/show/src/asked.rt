@@ -16,7 +16,7 @@ fn number(word: Option<String>) -> Option<u32> {
 }
 
 // The four numbers in their order.
-fn asked(words: &mut env::Args) -> Option<Asked> {
+fn four_numbers(words: &mut env::Args) -> Option<Asked> {
     Some(Asked {
         steps: number(words.next())?,
         top: number(words.next())?,
@@ -29,5 +29,5 @@ fn asked(words: &mut env::Args) -> Option<Asked> {
 pub(crate) fn read_words(rt: &HostRuntime) -> anyhow::Result<Option<Asked>> {
     let mut words = env::args(rt)?;
     let _ = words.next();
-    Ok(asked(&mut words))
+    Ok(four_numbers(&mut words))
 }
