@@ -1,10 +1,9 @@
 -- Reading digits one by one. Assumes nothing.
-use Rattle.std.proofs.Common.{◌≡◌, ℕ, suc, ◌+◌, ◌-◌, ◌*◌, ◌^◌, ◌<◌, ◌≤◌, Bool, true, false, cond, ◌&&◌, eqb, ltb, leb, List, [], ◌∷◌, length, get_or, take, drop, Some, None, Option, sym, refl, ap, ◌∙◌, mul-le-mul_right, mul_assoc, pow-suc, add-one, arith}
+use Rattle.std.proofs.Common.{◌≡◌, ℕ, suc, ◌+◌, ◌-◌, ◌*◌, ◌^◌, ◌<◌, ◌≤◌, Bool, true, false, cond, ◌&&◌, eqb, ltb, leb, List, [], ◌∷◌, length, take, drop, Some, None, sym, refl, ap, ◌∙◌, mul-le-mul_right, mul_assoc, add-one, arith}
 use native.Mathlib.Nat.{pow-succ', pow-le-pow_right}
-use Rattle.std.proofs.lemmas.List.{at_drop_more, at_drop_all, take_rest}
-use Rattle.std.proofs.lemmas.Bool.{both_ways, and_parts, leb-true, lt-ltb, le-leb, and_right, le-ltb, eq-eqb, cond-true, cond-false}
-use Rattle.cards.specs.declared.numeral.Numeral.{Numeral}
-use Rattle.cards.specs.Numerals.{is_digit, all_digits, decimal, plain, over, slash, value_digits, ratio, negated, signed}
+use Rattle.std.proofs.lemmas.List.{take_rest}
+use Rattle.std.proofs.lemmas.Bool.{and_parts, leb-true, lt-ltb, le-ltb, cond-true, cond-false}
+use Rattle.cards.specs.Numerals.{is_digit, all_digits, decimal, plain, over, slash, value_digits, ratio}
 use Rattle.std.proofs.lemmas.List.Quantifiers.{position-Some}
 use Rattle.std.specs.List.{position}
 use Rattle.std.specs.Option.{unwrap_or}

@@ -8,7 +8,7 @@ use Rattle.sheet.specs.declared.plan.Plan.{Plan}
 use Rattle.sheet.specs.declared.row.Row.{Row}
 use Rattle.sheet.specs.Calls.{Sheet}
 use Rattle.sheet.specs.Meanings.{meant_row, meant_sheet}
-use Rattle.sheet.specs.Refusals.{Told, Answer, granted, refused, refuse}
+use Rattle.sheet.specs.Refusals.{Answer, granted, refused, refuse}
 use Rattle.cards.specs.declared.fault.Layer.TheVariants as layer
 use Rattle.cards.specs.Cards.{Checked, right, wrong, line_of}
 use Rattle.cards.specs.Following.{cards_of, LineSays, Says, blank_sheet, placing, Placed, Follows, FaultOf, FaultAmong, FirstFault, Accepts, Blames}

@@ -1,10 +1,10 @@
-use Rattle.std.proofs.Common.{◌≡◌, ℕ, ◌+◌, eqb, List, length, drop, sym, refl, ap, ◌∙◌, subst, inl, inr, add-one, rules, of_calls}
+use Rattle.std.proofs.Common.{◌≡◌, ℕ, ◌+◌, eqb, List, length, drop, sym, refl, ap, ◌∙◌, subst, inl, inr, add-one, rules}
 use denote.Param.Always.{mut_total}
 use borrow.Pointer.Entry.{Sure-in}
 use Rattle.std.proofs.lemmas.List.{length_push}
 use Rattle.std.proofs.lemmas.Result.{err_from_is_err_and}
 use Rattle.std.specs.Iterator.Adapters.{enumerate_source, enumerate_count}
-use Rattle.std.specs.Slice.Iter.{split_callee, split_rest, split_done}
+use Rattle.std.specs.Slice.Iter.{split_rest, split_done}
 use Rattle.sheet.specs.declared.plan.Plan.{Plan}
 use Rattle.sheet.specs.declared.row.Row.{Row}
 use Rattle.sheet.specs.Meanings.{meant_sheet}
