@@ -1,5 +1,6 @@
 // The checking arithmetic: remainders modulo 8,191. A value is a 16-bit number, whichever, and its meaning is its
-// remainder; every answered value is below 8,191.
+// remainder; every answered value is below 8,191. That stands in each contract and in no type, since any 16-bit number is
+// taken as a value.
 ghost use Rattle.std.specs.Prelude.{◌≡◌, ◌<◌, true};
 ghost use Rattle.arithmetic.specs.Ops.{capped};
 ghost use Rattle.arithmetic.specs.Residues.{Residue, residue, residue_ops};

@@ -7,7 +7,7 @@ use crate::numeral::Numeral;
 // The most digits of a branch or node number.
 pub(crate) const NUMBER_DIGITS: usize = 6;
 
-// The most digits of a value's or a start's whole numbers.
+// The most digits of a value's or a start's whole numbers: another rule than that of numbers, with the same limit today.
 const VALUE_DIGITS: usize = 6;
 
 // The number that the digits write, at least one and at most so many.

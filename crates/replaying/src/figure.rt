@@ -4,7 +4,7 @@ use arithmetic::remainder_of;
 use std::fmt;
 use std::num::{f64_from_bits_with_nan, f64_to_bits_with_nan};
 
-// A value of an arithmetic, as a stream writes it.
+// A value of an arithmetic, as a stream writes it: by its bits or its remainder, where `Display` writes it in decimal.
 pub(crate) trait Figure: Copy {
     // The value that a word hands over.
     fn read(word: &[u8]) -> Option<Self>;

@@ -1,4 +1,4 @@
-// A plan: the branches of a sheet, by place.
+// A plan: the branches of a sheet, by place. The places are a fixed array, since no call on a sheet asks for memory.
 use crate::branch::Branch;
 
 #[derive(Clone, Copy)]

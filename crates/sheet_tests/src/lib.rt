@@ -17,7 +17,7 @@ pub fn row_of<N: Copy>(v: N) -> Row<N> {
     }
 }
 
-// 0 for a granted call, else the refusal's number.
+// 0 for a granted call, else the refusal's number: tests name a refusal as users know it.
 pub fn number_of<T: Drop>(answer: Result<T, Refusal>) -> u32 {
     match answer {
         Ok(_) => 0,

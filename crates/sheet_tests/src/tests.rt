@@ -2,6 +2,7 @@ use crate::{number_of, placed, placed_on, placed_residue, row_of};
 use sheet::{Kind, Placement, Plan};
 use std::test::Fail;
 
+// Kinds by number, since numbers that are no kind are placed too.
 const RESISTOR: u32 = 1;
 
 const INDUCTOR: u32 = 2;

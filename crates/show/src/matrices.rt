@@ -2,6 +2,7 @@
 use sheet::{Plan, Refusal, Shown};
 use topology::{Sign, cut_row, incidence, is_placed, loop_row, sign_at, tree};
 
+// Signs are numbers in these matrices alone, so the sign's own crate has no such conversion.
 fn number(sign: Sign) -> i32 {
     match sign {
         Sign::Plus => 1,

@@ -19,7 +19,8 @@ use sheet::{Plan, Refusal, Row};
 use solver::solve;
 use topology::tree;
 
-// Rows and area stay the lent slices: their lengths are asked for once, in `step`, which refuses a wrong one by 1.
+// Rows and area stay the lent slices: their lengths are asked for once, in `step`, which refuses a wrong one by 1. A place
+// is asked to be below 32 where a row is read or written by it.
 
 // Companions, system and solution in the area; the number of unknowns, or none where a column has no pivot.
 fn solve_system<N: Arithmetic>(

@@ -24,7 +24,8 @@ pub(crate) struct Node {
     ghost within: { number < 16 },
 }
 
-// The node that a branch starts at; 0 where there is no branch.
+// The node that a branch starts at; 0 where there is no branch. It differs from `head` in a field alone: to hand the field
+// over would be longer than either.
 pub(crate) fn tail(plan: &Plan, k: u32) -> Node
     ensures { result.number ≡ (graph_of plan.now).tail k }
 {
@@ -42,6 +43,7 @@ pub(crate) fn head(plan: &Plan, k: u32) -> Node
     }
 }
 
+// A plan's own length is known to the sheet alone, so the bound is asked for here.
 pub fn is_placed(plan: &Plan, k: u32) -> bool
     ensures { result ≡ placed plan.now k }
 {
