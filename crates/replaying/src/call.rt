@@ -9,6 +9,7 @@ pub(crate) const MOST_ROWS: usize = 33;
 // The largest work area.
 pub(crate) const MOST_PLACES: usize = 512;
 
+// What a call does. It is read from text, so it is an enum and no closure.
 #[derive(Drop)]
 pub(crate) enum Deed<N> {
     Blank,

@@ -48,7 +48,7 @@ fn make<N: Arithmetic>(
         Deed::Lift(number) => plan.lift(rows, number),
         Deed::Set(number, value) => plan.set(rows, number, value),
         Deed::Step(places, h) => {
-            area.fill(N::one());
+            area.fill_with(|| N::one());
             let lent = places.min(area.len());
             step(plan, rows, h, &mut area[0..lent])
         }

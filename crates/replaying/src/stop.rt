@@ -5,7 +5,7 @@ use std::fmt;
 use std::fmt::InlineText;
 use std::str::from_utf8;
 
-// No answer has more bytes; a longer line of a stream is cut when it is shown.
+// No answer has more bytes; a longer line of a stream is cut when it is shown, so that comparing asks for no memory.
 const LONGEST: usize = 600;
 
 pub(crate) type Text = InlineText<LONGEST>;

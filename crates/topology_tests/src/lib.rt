@@ -6,7 +6,8 @@ use sheet::{Kind, Placement, Plan, Refusal, Row, fresh_rows};
 #[cfg(test)]
 mod tests;
 
-// The branches of a list at the places 0, 1 and so on, each with the value 1.
+// The branches of a list at the places 0, 1 and so on, each with the value 1: a list of other tuples than that of the tests
+// of steps.
 pub fn drawn(branches: &[(Kind, u32, u32)]) -> Result<Plan, Refusal> {
     let mut rows = fresh_rows();
     let mut plan = Plan::empty();
