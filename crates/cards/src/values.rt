@@ -1,4 +1,4 @@
-// What a field's text says: digits for numbers and nodes, digits over digits for values and starts.
+// What a field's text says as a branch or node number, and what its numeral means.
 ghost use Rattle.std.specs.Prelude.{◌≡◌, not, ◌&&◌, ◌==◌, Option};
 ghost use Rattle.cards.specs.Cards.{checked_by, wanted, byte_of, then, measured, counted};
 ghost use Rattle.cards.specs.Fields.{seen};

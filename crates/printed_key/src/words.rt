@@ -24,7 +24,7 @@ impl fmt::Display for Members {
     }
 }
 
-// The members of a loop or cut, each behind its sign, as ` -0 +1`.
+// The members of a loop or cut, each behind its sign, as ` -0 +1`. A type beside `Members`, since a word has no signs.
 #[derive(Clone, Copy)]
 pub(crate) struct Signed(pub(crate) Shown);
 

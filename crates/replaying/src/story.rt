@@ -31,14 +31,11 @@ fn expect_rows<N: Arithmetic + Figure>(stream: &mut Stream, sheet: &Sheet<N>) ->
     Ok(())
 }
 
-// One call and its answer. A granted step is shown to `stepped`.
-fn replay_call<N: Arithmetic + Figure, F: FnMut(&Sheet<N>)>(
+// One call and its answer. Tells whether it was a granted step.
+fn replay_call<N: Arithmetic + Figure>(
     stream: &mut Stream,
     sheet: &mut Sheet<N>,
-    mut stepped: F,
-) -> Result<(), Stop>
-    requires { F.IsAlwaysCallable stepped }
-{
+) -> Result<bool, Stop> {
     let line = stream.line().ok_or(Stop::Unreadable)?;
     let call = Call::read(line).ok_or(Stop::Unreadable)?;
     let is_step = call.deed.is_step();
@@ -46,14 +43,11 @@ fn replay_call<N: Arithmetic + Figure, F: FnMut(&Sheet<N>)>(
     expect(stream, Answer(answer))?;
     if is_step {
         expect_rows(stream, sheet)?;
-        if answer.is_ok() {
-            stepped(sheet);
-        }
     }
-    Ok(())
+    Ok(is_step && answer.is_ok())
 }
 
-// Every call up to the line of the slip.
+// Every call up to the line of the slip. After each granted step the sheet is shown to `stepped`.
 fn replay_calls<N: Arithmetic + Figure, F: FnMut(&Sheet<N>)>(
     stream: &mut Stream,
     sheet: &mut Sheet<N>,
@@ -65,7 +59,9 @@ fn replay_calls<N: Arithmetic + Figure, F: FnMut(&Sheet<N>)>(
         if stream.is_at(b"slip ") {
             break;
         }
-        replay_call(stream, sheet, &mut stepped)?;
+        if replay_call(stream, sheet)? {
+            stepped(sheet);
+        }
     }
     Ok(())
 }

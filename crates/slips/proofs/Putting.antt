@@ -7,9 +7,6 @@ use Rattle.slips.specs.Bits.{put_bit, put_bits, high, low, zeroed}
 use Rattle.slips.specs.Entries.{code_of, entries_bits}
 use Rattle.slips.specs.Slips.{row_bits}
 
-pub shifted : (b e : ℕ) → b < 2 → b * 2 ^ (7 - e) < 256
-shifted b e h = lt_of_lt_of_le (shl_lt 1 (7 - e) h) (pow_mono {j = 8} (omega arith))
-
 pub last_bit : (n : ℕ) → bit_and n 1 ≡ n % 2
 last_bit n = and_mask n 1
 

@@ -13,6 +13,7 @@
 -- renewed_rows    the rows with those of every placed branch
 -- unsound         some current or voltage of a placed branch is unsound
 -- Showing         what refusals 12 and 13 show of a plan
+-- showing         refused by that number with these words where the test holds, else what follows
 -- TreeCall        for each plan a tree's word, or a refusal
 -- tree_showing w  the branches kept; 12 with what w shows where a voltage source is none of them, 13 where a current source is one
 -- stepped_by a    the answer to a step: table and area lengths, step length, what a answers of the plan, sheet

@@ -9,7 +9,8 @@
 --                 call then grants one, with the most capacitors (class 1) and the fewest inductors (class 3)
 -- BestKept p met  the same of the tree that is kept
 -- BestTrees       a plan passes exactly if some tree is proper
--- AnyArea         a step finds the same whatever stood in its area before the rows were written, companions or none
+-- FoundOn o c w   on an area that is w before the rows of its system, a step finds what it finds on its own
+-- AnyArea         so it does on every area of 304 places, with companions or with none
 -- SumsBy          value × change of voltage is the sum of step length × current, at a capacitor; of current and voltage, at an inductor
 -- TreesBy a Best, TheoremBy a Best
 --                 the theorem where a answers with a plan's tree, and Best is said of that

@@ -12,7 +12,7 @@ pub fn best_trees()
     ensures { BestTrees }
 {}
 
-// In every arithmetic, a step finds the same whatever its area held before its rows were written.
+// In every arithmetic, by its definition, a step finds the same whatever stands in its area besides the rows of its system.
 pub fn areas_of_steps<N: Arithmetic>()
     ensures { AnyArea N.ops }
 {}

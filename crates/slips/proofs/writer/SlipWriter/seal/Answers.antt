@@ -3,9 +3,6 @@ use Rattle.slips.specs.Writing.{ReadsBack}
 use Rattle.slips.proofs.Holding.{sealed_left}
 use Rattle.slips.proofs.writer.SlipWriter.seal.Goals as goal
 
-pub returns-clause-answers : goal.returns-clause-answers
-returns-clause-answers c = let e : c.div_ceil.result ≡ (c.args.self.counters.at + 7) / 8 = omega (arith, c.div_ceil.ensures) in search rules
-
 pub returns-clause-reads_back : goal.returns-clause-reads_back
 returns-clause-reads_back c s h =
     let w = c.args.self in
