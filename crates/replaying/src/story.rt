@@ -47,21 +47,20 @@ fn replay_call<N: Arithmetic + Figure>(
     Ok(is_step && answer.is_ok())
 }
 
-// Every call up to the line of the slip. After each granted step the sheet is shown to `stepped`.
-fn replay_calls<N: Arithmetic + Figure, F: FnMut(&Sheet<N>)>(
+// Every call up to the line of the slip. After each the sheet is shown to `after`, with whether it was a granted step.
+fn replay_calls<N: Arithmetic + Figure, F: FnMut(bool, &Sheet<N>)>(
     stream: &mut Stream,
     sheet: &mut Sheet<N>,
-    mut stepped: F,
+    mut after: F,
 ) -> Result<(), Stop>
-    requires { F.IsAlwaysCallable stepped }
+    requires { F.IsAlwaysCallable after }
 {
     for _ in 0..stream.left() {
         if stream.is_at(b"slip ") {
             break;
         }
-        if replay_call(stream, sheet)? {
-            stepped(sheet);
-        }
+        let is_granted_step = replay_call(stream, sheet)?;
+        after(is_granted_step, sheet);
     }
     Ok(())
 }
@@ -94,7 +93,11 @@ fn expect_readings(stream: &mut Stream, sheet: &Sheet<f64>) -> Result<(), Stop> 
 fn replay_binary64(stream: &mut Stream, traced: u32) -> Result<(), Stop> {
     let mut sheet = Sheet::blank();
     let mut trace = Trace::fresh();
-    replay_calls(stream, &mut sheet, |sheet| take(&mut trace, sheet, traced))?;
+    replay_calls(stream, &mut sheet, |is_granted_step, sheet| {
+        if is_granted_step {
+            take(&mut trace, sheet, traced);
+        }
+    })?;
     expect_slip(stream, &sheet)?;
     expect_readings(stream, &sheet)?;
     expect(
@@ -108,7 +111,7 @@ fn replay_binary64(stream: &mut Stream, traced: u32) -> Result<(), Stop> {
 
 fn replay_residues(stream: &mut Stream) -> Result<(), Stop> {
     let mut sheet = Sheet::<u16>::blank();
-    replay_calls(stream, &mut sheet, |_| {})?;
+    replay_calls(stream, &mut sheet, |_, _| {})?;
     expect_slip(stream, &sheet)
 }
 
