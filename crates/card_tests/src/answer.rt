@@ -3,7 +3,7 @@ use arithmetic::Arithmetic;
 use cards::{Fault, Layer, read_cards};
 use sheet::{Plan, Row};
 
-// Who refuses, the number of the refusal, the line and the byte.
+// Who refuses, the number of the refusal, the line and the byte: tests name a refusal by number, as users know it.
 pub type Answer = Result<(), (Layer, u32, usize, usize)>;
 
 pub fn in_numbers(fault: Fault) -> (Layer, u32, usize, usize) {

@@ -39,7 +39,7 @@ fn replay_parts(heap: Global, stream: &mut Stream, progress: &mut Progress) -> R
 // Replays a stream up to the first answer that is not the expected one.
 pub fn replay(heap: Global, text: &[u8]) -> Report {
     let mut stream = Stream::new(text);
-    let mut progress = Progress::none();
+    let mut progress = Progress::default();
     let end = replay_parts(heap, &mut stream, &mut progress);
     Report {
         progress,

@@ -9,7 +9,7 @@ pub(crate) enum Part {
 }
 
 // How many files and stories are begun, and the part that is replayed.
-#[derive(Clone, Copy)]
+#[derive(Clone, Copy, Default)]
 pub(crate) struct Progress {
     pub(crate) files: u32,
     pub(crate) stories: u32,
@@ -17,14 +17,6 @@ pub(crate) struct Progress {
 }
 
 impl Progress {
-    pub(crate) fn none() -> Progress {
-        Progress {
-            files: 0,
-            stories: 0,
-            part: None,
-        }
-    }
-
     pub(crate) fn begin_file(&mut self) {
         self.files = self.files.saturating_add(1);
         self.part = Some(Part::File);

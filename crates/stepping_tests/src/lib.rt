@@ -11,7 +11,8 @@ use stepping::step;
 #[cfg(test)]
 mod tests;
 
-// A figure as the number that it is compared by.
+// A figure as the number that it is compared by: its bits, or its remainder, which is worked out here and not asked of the
+// engine.
 pub trait Figure: Copy {
     fn code(self) -> u64;
 }
@@ -83,12 +84,9 @@ pub fn follows<N: Arithmetic + Figure>(
     work: &mut [N],
     steps: &[&[(u64, u64)]],
 ) -> bool {
-    for figures in steps {
-        if step(plan, rows, h, work).is_err() || !shows_all(plan, rows, figures) {
-            return false;
-        }
-    }
-    true
+    steps.iter().all(|figures| {
+        step(plan, rows, h, work).is_ok() && shows_all(plan, rows, figures)
+    })
 }
 
 // Whether a step of each of these lengths is refused by that number.
@@ -99,12 +97,9 @@ pub fn are_refused<N: Arithmetic>(
     work: &mut [N],
     number: u32,
 ) -> bool {
-    for h in lengths {
-        if number_of(step(plan, rows, *h, work)) != number {
-            return false;
-        }
-    }
-    true
+    lengths
+        .iter()
+        .all(|h| number_of(step(plan, rows, *h, work)) == number)
 }
 
 // Whether every place holds that figure.
