@@ -45,7 +45,8 @@ impl<N: Figure> fmt::Display for RowAnswer<N> {
     }
 }
 
-// `slip LENGTH BYTES`, or the refusal. A byte past them that is not zero is told too.
+// `slip LENGTH BYTES`, or the refusal. A byte past them that is not zero is told too, so the whole area is kept beside
+// the length.
 #[derive(Drop)]
 pub(crate) struct SlipAnswer {
     pub(crate) bytes: [u8; SLIP],

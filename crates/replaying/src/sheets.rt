@@ -4,7 +4,8 @@ use arithmetic::Arithmetic;
 use sheet::{Plan, Refusal, Row};
 use stepping::step;
 
-// A plan with its rows and the work area of its steps. One row more than a plan has is there to be lent.
+// A plan with its rows and the work area of its steps. One row more than a plan has is there to be lent. They are arrays, since
+// each call is lent as much of them as it says, and the replay asks for no memory.
 #[derive(Drop)]
 pub(crate) struct Sheet<N> {
     pub(crate) plan: Plan,

@@ -31,7 +31,7 @@ fn expect_rows<N: Arithmetic + Figure>(stream: &mut Stream, sheet: &Sheet<N>) ->
     Ok(())
 }
 
-// One call and its answer. Tells whether it was a granted step.
+// One call and its answer. Tells whether it was a granted step: no value goes with that, since the sheet has the figures.
 fn replay_call<N: Arithmetic + Figure>(
     stream: &mut Stream,
     sheet: &mut Sheet<N>,
@@ -47,7 +47,8 @@ fn replay_call<N: Arithmetic + Figure>(
     Ok(is_step && answer.is_ok())
 }
 
-// Every call up to the line of the slip. After each the sheet is shown to `after`, with whether it was a granted step.
+// Every call up to the line of the slip. After each the sheet is shown to `after`, with whether it was a granted step: it was
+// tried to show it after granted steps alone, but a closure called under a branch leaves the loop's invariant unproved.
 fn replay_calls<N: Arithmetic + Figure, F: FnMut(bool, &Sheet<N>)>(
     stream: &mut Stream,
     sheet: &mut Sheet<N>,

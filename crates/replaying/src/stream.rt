@@ -1,10 +1,6 @@
 // Reading a stream line by line.
 const LINE_END: u8 = b'\n';
 
-fn is_line_end(byte: &u8) -> bool {
-    *byte == LINE_END
-}
-
 // What is left to be read of a stream, and how many lines are read.
 #[derive(Drop)]
 pub(crate) struct Stream<'a> {
@@ -37,7 +33,7 @@ impl<'a> Stream<'a> {
 
     // The next line without its end; none where no line ends any more.
     pub(crate) fn line(&mut self) -> Option<&'a [u8]> {
-        let length = self.rest.iter().position(is_line_end)?;
+        let length = self.rest.iter().position(|b| *b == LINE_END)?;
         self.block(length)
     }
 
@@ -45,7 +41,7 @@ impl<'a> Stream<'a> {
     pub(crate) fn block(&mut self, length: usize) -> Option<&'a [u8]> {
         let (block, rest) = self.rest.split_at_checked(length)?;
         self.rest = rest.strip_prefix(&[LINE_END])?;
-        let ends = block.iter().filter(|b| is_line_end(b)).count();
+        let ends = block.iter().filter(|b| **b == LINE_END).count();
         self.lines = self.lines.saturating_add(ends).saturating_add(1);
         Some(block)
     }
