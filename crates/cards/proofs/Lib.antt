@@ -1,7 +1,6 @@
 pub mod Chains
 pub mod Figures
 pub mod Lining
-pub mod Numbering
 pub mod Obeying
 pub mod Pieces
 pub mod Placing

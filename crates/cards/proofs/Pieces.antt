@@ -1,13 +1,14 @@
 -- The first piece of a text, and the first field of a line. Assumes nothing.
-use Rattle.std.proofs.Common.{◌≡◌, ℕ, suc, ◌+◌, ◌-◌, ◌<◌, ◌≤◌, Bool, true, false, cond, not, eqb, ltb, ◌⊎◌, List, [], ◌∷◌, length, get_or, take, drop, Some, None, sym, refl, ap, ◌∙◌, subst, inl, inr, add-zero, arith, length-drop}
+use Rattle.std.proofs.Common.{◌≡◌, ℕ, suc, ◌+◌, ◌-◌, ◌<◌, ◌≤◌, Bool, true, false, cond, not, eqb, leb, ltb, ◌⊎◌, List, [], ◌∷◌, length, get_or, take, drop, Some, None, sym, refl, ap, ◌∙◌, subst, inl, inr, add-zero, arith, length-drop}
 use Rattle.std.proofs.lemmas.List.Recursion.{is_position_or_len}
 use Rattle.std.proofs.lemmas.List.Sums.{prefix_len-le-length}
 use Rattle.std.proofs.Math.Numerals.{one-add}
-use Rattle.std.specs.List.{position, position_or_len, slice_split, onto_first}
+use Rattle.std.specs.List.{position, position_or_len, slice_range}
 use Rattle.std.specs.Option.{unwrap_or}
-use Rattle.std.proofs.lemmas.List.{drop-drop, drop_all, length-take-le, take_all, get_or-drop}
-use Rattle.std.proofs.lemmas.Bool.{ltb-false, eqb-true, ne_eqb}
+use Rattle.std.proofs.lemmas.List.{take_rest, drop-drop, drop_all, length-take-le, take_all, get_or-drop}
+use Rattle.std.proofs.lemmas.Bool.{ltb-false, eqb-true, ne_eqb, le-leb, lt-leb, cond-true, cond-false}
 use Rattle.cards.specs.Fields.{Word, worded, words, words_from, word_at, missing, word_end, First}
+use Rattle.cards.specs.Lines.{lines_from}
 use Rattle.cards.specs.Parts.{reach, further, parts, before, onto}
 
 -- the separator does not occur: all is one piece
@@ -143,13 +144,35 @@ pub this_field : (line : List ℕ) (k from : ℕ) (w : Word) → words_from from
 this_field line k from w all f =
     f.is ∙ ap (λ ws. get_or ws 0 (missing line)) all ∙ get_or-drop k (words line) 0 (missing line) ∙ ap (λ n. get_or (words line) n (missing line)) (add-zero k)
 
--- the pieces are what `split` gives
-pub split_parts : (s : ℕ) (bs : List ℕ) → slice_split (λ b. eqb b s) bs ≡ parts s bs
-unfolding parts
-split_parts s [] = refl
-split_parts s (b ∷ bs) = ap (λ ps. cond (eqb b s) ([] ∷ ps) (onto_first b ps)) (split_parts s bs) ∙ same (eqb b s) (parts s bs)
+-- the next line is the next piece
+lines_more : (input : List ℕ) (at r : ℕ) → at ≤ length input → r ≡ reach 10 (drop at input)
+    → lines_from input at ≡ take r (drop at input) ∷ lines_from input (at + (r + 1))
+lines_more input at r within is = first ∙ subst (λ n. parts 10 (drop at input) ≡ take n (drop at input) ∷ lines_from input (at + (n + 1))) (sym is) (go (first_piece 10 (drop at input)))
   where
-    same : (t : Bool) (ps : List (List ℕ)) → cond t ([] ∷ ps) (onto_first b ps) ≡ before t b ps
-    same true ps = refl
-    same false [] = refl
-    same false (w ∷ ws) = refl
+    first : lines_from input at ≡ parts 10 (drop at input)
+    first = cond-true (leb at (length input)) _ _ (le-leb _ _ within)
+
+    size : length (drop at input) ≡ length input - at
+    size = length-drop at input
+
+    go : Ends (drop at input) (reach 10 (drop at input)) (parts 10 (drop at input)) ⊎ Found 10 (drop at input) (reach 10 (drop at input)) (parts 10 (drop at input))
+        → parts 10 (drop at input) ≡ take (reach 10 (drop at input)) (drop at input) ∷ lines_from input (at + (reach 10 (drop at input) + 1))
+    go (inl h) =
+        let past : length input < at + (reach 10 (drop at input) + 1) = omega (arith, h.whole, size) in
+        let none = cond-false (leb (at + (reach 10 (drop at input) + 1)) (length input)) (parts 10 (drop (at + (reach 10 (drop at input) + 1)) input)) [] (lt-leb _ _ past) in
+        let all = take_all (reach 10 (drop at input)) (drop at input) (omega (arith, h.whole)) in
+        h.piece ∙ sym (λ i. all i ∷ none i)
+    go (inr h) =
+        let r = reach 10 (drop at input) in
+        let before : at + (r + 1) ≤ length input = omega (arith, h.below, size) in
+        let on : at + suc r ≡ at + (r + 1) = omega arith in
+        let rest : drop (suc r) (drop at input) ≡ drop (at + (r + 1)) input = drop-drop (suc r) at input ∙ ap (λ n. drop n input) on in
+        h.piece ∙ ap (λ bs. take r (drop at input) ∷ parts 10 bs) rest
+        ∙ ap (λ ls. take r (drop at input) ∷ ls) (sym (cond-true (leb (at + (r + 1)) (length input)) _ _ (le-leb _ _ before)))
+
+-- the same, of what stands from there on
+pub next_line : (input rest : List ℕ) (at r : ℕ) → at ≤ length input → rest ≡ slice_range input at (length input) → r ≡ reach 10 rest
+    → lines_from input at ≡ take r rest ∷ lines_from input (at + (r + 1))
+next_line input rest at r within is reached =
+    let all = is ∙ take_rest input at in
+    lines_more input at r within (reached ∙ ap (reach 10) all) ∙ ap (λ bs. take r bs ∷ lines_from input (at + (r + 1))) (sym all)

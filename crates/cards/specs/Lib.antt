@@ -1,6 +1,7 @@
 pub mod Cards
 pub mod Fields
 pub mod Following
+pub mod Lines
 pub mod Numerals
 pub mod Parts
 pub mod Reading

@@ -1,31 +1,21 @@
 // The call that reads a text of cards.
-ghost use Rattle.std.specs.Prelude.{◌≡◌, ◌==◌, length};
+ghost use Rattle.std.specs.Prelude.{◌≡◌, length};
 ghost use Rattle.cards.specs.Following.{Accepts, Blames};
 ghost use Rattle.cards.specs.Reading.{state_of, report, line_done, cards_read};
 ghost use Rattle.sheet.specs.Meanings.{meant_sheet};
 
 use crate::card::read_line;
 use crate::fault::{Fault, Layer};
+use crate::reader::{Line, Reader};
 use arithmetic::Arithmetic;
 use sheet::{Plan, Row};
 
-// A line ends at byte 10 or with the text.
-fn ends_line(b: &u8) -> bool
-    ensures { result ≡ (b.now == 10) }
+// Places the card of a line, if it has one. A fault of the sheet is at byte 1.
+fn place_line<N: Arithmetic>(line: Line, plan: &mut Plan, rows: &mut [Row<N>]) -> Result<(), Fault>
+    ensures { state_of N.mean result plan.new rows.new ≡ line_done N.ops line.entry.number line.entry.text.now (meant_sheet N.mean (record { plan = plan.old; rows = rows.old })) }
 {
-    *b == b'\n'
-}
-
-// Places the card of the line of that number, if it has one. A fault of the sheet is at byte 1.
-fn place_line<N: Arithmetic>(
-    number: usize,
-    text: &[u8],
-    plan: &mut Plan,
-    rows: &mut [Row<N>],
-) -> Result<(), Fault>
-    ensures { state_of N.mean result plan.new rows.new ≡ line_done N.ops number text.now (meant_sheet N.mean (record { plan = plan.old; rows = rows.old })) }
-{
-    let card = read_line(text).map_err(|wrong| wrong.at(number))?;
+    let number = line.number;
+    let card = read_line(line.text).map_err(|wrong| wrong.at(number))?;
     let Some(placement) = card else {
         return Ok(());
     };
@@ -54,9 +44,8 @@ pub fn read_cards<N: Arithmetic>(
         line: 0,
         byte: 0,
     })?;
-    // A pointer: where a generic function loops over an iterator that holds a closure, its invariant cannot be stated.
-    for (n, text) in input.split(ends_line as fn(&u8) -> bool).enumerate() {
-        place_line(n + 1, text, plan, rows)?;
+    for line in Reader::new(input) {
+        place_line(line, plan, rows)?;
     }
     Ok(())
 }

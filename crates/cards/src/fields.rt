@@ -5,6 +5,7 @@ ghost use Rattle.cards.specs.Fields.{seen, seen_cut, cutting, First, word_end, w
 
 use crate::fault::Wrong;
 use crate::field::{Cut, Field};
+use crate::scan::until;
 use sheet::Refusal;
 
 const SPACE: u8 = b' ';
@@ -47,9 +48,8 @@ fn field_from<'a>(line: &'a [u8], from: usize) -> Field<'a>
 {
     let place = past_spaces(line, from);
     let rest = &line[place..];
-    let length = rest.iter().position(|b| *b == SPACE).unwrap_or(rest.len());
     Field {
-        text: &rest[..length],
+        text: &rest[..until(rest, SPACE)],
         place,
     }
 }

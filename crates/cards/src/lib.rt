@@ -7,7 +7,10 @@ mod digits;
 mod fault;
 mod field;
 mod fields;
+mod lines;
 mod numeral;
+mod reader;
+mod scan;
 mod values;
 
 pub use calls::read_cards;

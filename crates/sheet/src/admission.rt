@@ -1,6 +1,6 @@
 // Which refusal, or which branch and first row, a placement gives on an empty place.
 ghost use Rattle.std.specs.Prelude.{◌≡◌};
-ghost use Rattle.sheet.specs.Calls.{valued, drawn, takes_value, takes_start, first_row, admitted};
+ghost use Rattle.sheet.specs.Calls.{valued, drawn, takes_value, takes_start, admitted};
 ghost use Rattle.sheet.specs.Refusals.{told};
 
 use crate::branch::Branch;
@@ -11,19 +11,22 @@ use crate::refusal::Refusal;
 use crate::row::Row;
 use arithmetic::{Arithmetic, may_divide};
 
-// Refusals 5 to 9 in that order, or the branch with its first row.
+// Refusals 5 to 9 in that order, or the branch with its first row: an inductor starts with a current, a capacitor with a
+// voltage.
 pub(crate) fn admit<N: Arithmetic>(p: Placement<N>) -> Result<(Branch, Row<N>), Refusal>
     ensures { told result ≡ admitted (valued N.ops N.mean N.nil) p }
 {
-    let kind = Kind::try_from(p.kind)?;
-    let ends = drawn(p.tail, p.head)?;
-    if !takes_value(kind, p.value) {
-        return Err(Refusal::BadValue);
+    let (start, zero) = (p.start, N::zero());
+    match (Kind::try_from(p.kind), drawn(p.tail, p.head)) {
+        (Err(refusal), _) | (Ok(_), Err(refusal)) => Err(refusal),
+        (Ok(kind), Ok(_)) if !takes_value(kind, p.value) => Err(Refusal::BadValue),
+        (Ok(kind), Ok(_)) if !takes_start(kind, start) => Err(Refusal::BadStart),
+        (Ok(kind @ (Kind::Resistor | Kind::VoltageSource | Kind::CurrentSource)), Ok(ends)) => Ok(
+            begun(kind, ends, p, zero, zero),
+        ),
+        (Ok(kind @ Kind::Inductor), Ok(ends)) => Ok(begun(kind, ends, p, start, zero)),
+        (Ok(kind @ Kind::Capacitor), Ok(ends)) => Ok(begun(kind, ends, p, zero, start)),
     }
-    if !takes_start(kind, p.start) {
-        return Err(Refusal::BadStart);
-    }
-    Ok((Branch { kind, ends }, first_row(kind, p.value, p.start)))
 }
 
 // 6 for a node above 15, 7 for a tail that is the head, or the ends.
@@ -57,20 +60,22 @@ fn takes_start<N: Arithmetic>(kind: Kind, start: N) -> bool
     start.is_sound() && (kind.has_start() || start.is_zero())
 }
 
-// The row of a branch just placed: an inductor starts with a current, a capacitor with a voltage.
-fn first_row<N: Arithmetic>(kind: Kind, value: N, start: N) -> Row<N>
-    ensures { result ≡ first_row (valued N.ops N.mean N.nil) kind value start }
+// The branch of that kind with those ends, and its row with that current and voltage.
+fn begun<N: Copy>(
+    kind: Kind,
+    ends: Ends,
+    p: Placement<N>,
+    current: N,
+    voltage: N,
+) -> (Branch, Row<N>)
+    ensures branch { result.0 ≡ record { kind = kind; ends = ends } }
+    ensures row { result.1 ≡ record { value = p.value; start = p.start; current = current; voltage = voltage } }
 {
-    let zero = N::zero();
-    let (current, voltage) = match kind {
-        Kind::Inductor => (start, zero),
-        Kind::Capacitor => (zero, start),
-        Kind::Resistor | Kind::VoltageSource | Kind::CurrentSource => (zero, zero),
-    };
-    Row {
-        value,
-        start,
+    let row = Row {
+        value: p.value,
+        start: p.start,
         current,
         voltage,
-    }
+    };
+    (Branch { kind, ends }, row)
 }
