@@ -1,9 +1,14 @@
 -- Reading digits one by one. Assumes nothing.
-use Rattle.std.proofs.Common.{◌≡◌, ℕ, suc, ◌+◌, ◌-◌, ◌*◌, ◌^◌, ◌<◌, ◌≤◌, Bool, true, false, cond, ◌&&◌, eqb, ltb, leb, List, [], ◌∷◌, length, take, drop, Some, None, sym, refl, ap, ◌∙◌, mul-le-mul_right, mul_assoc, add-one, arith}
+use Rattle.std.proofs.Common.{◌≡◌, ℕ, suc, ◌+◌, ◌-◌, ◌*◌, ◌^◌, ◌<◌, ◌≤◌, Bool, true, false, cond, ◌&&◌, eqb, ltb, leb, List, [], ◌∷◌, length, take, drop, Some, None, Option, sym, refl, ap, ◌∙◌, mul-le-mul_right, mul_assoc, add-one, arith}
 use native.Mathlib.Nat.{pow-succ', pow-le-pow_right}
 use Rattle.std.proofs.lemmas.List.{take_rest}
-use Rattle.std.proofs.lemmas.Bool.{and_parts, leb-true, lt-ltb, le-ltb, cond-true, cond-false}
-use Rattle.cards.specs.Numerals.{is_digit, all_digits, decimal, plain, over, slash, value_digits, ratio}
+use Rattle.std.proofs.lemmas.Bool.{both_ways, and_parts, leb-true, lt-ltb, le-ltb, cond-true, cond-false}
+use Rattle.sheet.specs.declared.kind.Kind.{Kind}
+use Rattle.cards.specs.declared.numeral.Numeral.{Numeral}
+use Rattle.cards.specs.declared.token.Token.{Token}
+use Rattle.cards.specs.declared.token.Token.TheVariants.{Number, Node, Value, Start}
+use Rattle.cards.specs.Cards.{right, wanted, byte_of}
+use Rattle.cards.specs.Numerals.{is_digit, all_digits, decimal, plain, over, slash, value_digits, ratio, number_digits, figured, word_of, is_whole}
 use Rattle.std.proofs.lemmas.List.Quantifiers.{position-Some}
 use Rattle.std.specs.List.{position}
 use Rattle.std.specs.Option.{unwrap_or}
@@ -58,3 +63,20 @@ ratio_parted text n some =
     ap (λ u. over (plain value_digits (take n text)) (plain value_digits u)) rest
     ∙ ap (λ k. over (plain value_digits (take k text)) (plain value_digits (drop (suc k) text))) e
     ∙ sym (cond-true (ltb (reach slash text) (length text)) _ _ (lt-ltb _ _ (omega (arith, e))))
+
+-- the number of a number or a node is below a million
+pub count_small : (k : Kind) (t : Token) (n : Numeral) → is_whole t ≡ true → right n ≡ wanted 22 (byte_of (word_of t)) (figured k t) → n.top < 1000000
+count_small k t n is e = go t is e
+  where
+    whole_small : (byte : ℕ) (text : List ℕ) (p : Option ℕ) → plain number_digits text ≡ p → right n ≡ wanted 22 byte (over p (Some 1)) → n.top < 1000000
+    whole_small byte text None at e = let z : ◌≡◌ {A = ℕ} 0 1 = cc in absurd (omega arith)
+    whole_small byte text (Some m) at e =
+        let same : n ≡ record { minus = false; top = m; under = 1 } = cc in
+        let top : n.top ≡ m = ap (λ x. x.top) same in
+        omega (arith, plain-lt number_digits text m at)
+
+    go : (t : Token) → is_whole t ≡ true → right n ≡ wanted 22 (byte_of (word_of t)) (figured k t) → n.top < 1000000
+    go (Number f) is e = whole_small _ f.text.now _ refl e
+    go (Node f) is e = whole_small _ f.text.now _ refl e
+    go (Value f) is e = absurd (both_ways true (sym is) refl)
+    go (Start f) is e = absurd (both_ways true (sym is) refl)

@@ -11,11 +11,18 @@
 -- ratio           digits, or digits over digits
 -- negated         a numeral after a minus
 -- signed          a ratio, or a minus and a ratio
+-- whole           the digits of a branch or node number, over 1
 -- value_text      a value's text: signed on a source, else a ratio
+-- figured         what the text of a field may be, by what the field is for
+-- word_of         the field that a token borrows
+-- is_whole        a token of a number or a node
 use Rattle.std.specs.Prelude.{ℕ, suc, ◌+◌, ◌-◌, ◌*◌, Bool, true, false, cond, ◌&&◌, List, [], ◌∷◌, length, take, drop, Some, None, Option, ◌==◌, nat_le, nat_lt}
 use Rattle.sheet.specs.declared.kind.Kind.{Kind}
 use Rattle.sheet.specs.Kinds.{is_source}
 use Rattle.cards.specs.declared.numeral.Numeral.{Numeral}
+use Rattle.cards.specs.declared.token.Token.{Token}
+use Rattle.cards.specs.declared.token.Token.TheVariants.{Number, Node, Value, Start}
+use Rattle.cards.specs.Fields.{Word, seen}
 use Rattle.cards.specs.Parts.{reach}
 
 abbrev pub number_digits : ℕ
@@ -60,5 +67,26 @@ abbrev pub signed : List ℕ → Option Numeral
 signed [] = None
 signed (b ∷ bs) = cond (b == 45) (negated (ratio bs)) (ratio (b ∷ bs))
 
+abbrev pub whole : List ℕ → Option Numeral
+whole text = over (plain number_digits text) (Some 1)
+
 abbrev pub value_text : Kind → List ℕ → Option Numeral
 value_text k text = cond (is_source k) (signed text) (ratio text)
+
+abbrev pub figured : Kind → Token → Option Numeral
+figured k (Number f) = whole f.text.now
+figured k (Node f) = whole f.text.now
+figured k (Value f) = value_text k f.text.now
+figured k (Start f) = signed f.text.now
+
+abbrev pub word_of : Token → Word
+word_of (Number f) = seen f
+word_of (Node f) = seen f
+word_of (Value f) = seen f
+word_of (Start f) = seen f
+
+abbrev pub is_whole : Token → Bool
+is_whole (Number f) = true
+is_whole (Node f) = true
+is_whole (Value f) = false
+is_whole (Start f) = false

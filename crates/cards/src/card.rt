@@ -1,30 +1,17 @@
 // One line: skipped, a card, or wrong.
 ghost use Rattle.std.specs.Prelude.{◌≡◌, not};
-ghost use Rattle.cards.specs.Cards.{checked_by, value_of, start_of, over_of, card_of, line_of, barred, byte_of, is_empty, right, meant_card};
+ghost use Rattle.cards.specs.Cards.{checked_by, start_of, over_of, card_of, line_of, barred, byte_of, is_empty, right, meant_card};
 ghost use Rattle.cards.specs.Fields.{seen, seen_cut};
 ghost use Rattle.sheet.specs.Meanings.{meant_placement};
 
-use crate::digits::{ratio_of, signed_of};
 use crate::fault::Wrong;
 use crate::field::{Cut, Field};
 use crate::fields::cut;
-use crate::values::{count, measure};
+use crate::token::Token;
 use arithmetic::Arithmetic;
 use sheet::{Kind, Placement, Refusal};
 
 const STAR: u8 = b'*';
-
-// A minus may stand before the value of a source.
-fn value<N: Arithmetic>(kind: Kind, field: Field) -> Result<N, Wrong>
-    ensures { checked_by N.mean result ≡ value_of N.ops kind (seen field.entry) }
-{
-    let numeral = if kind.is_source() {
-        signed_of(field.text)
-    } else {
-        ratio_of(field.text)
-    };
-    measure(field, numeral)
-}
 
 // The start that the field after the value gives; zero where the kind has none or none is written.
 fn start<N: Arithmetic>(kind: Kind, field: Field) -> Result<N, Wrong>
@@ -33,7 +20,7 @@ fn start<N: Arithmetic>(kind: Kind, field: Field) -> Result<N, Wrong>
     if !kind.has_start() || field.text.is_empty() {
         return Ok(N::zero());
     }
-    measure(field, signed_of(field.text))
+    Token::Start(field).measure(kind)
 }
 
 // Nothing may follow the last field that the kind takes. Refused by 24.
@@ -59,10 +46,10 @@ fn card<'a, N: Arithmetic>(
 ) -> Result<Placement<N>, Wrong>
     ensures { checked_by (meant_placement N.mean) result ≡ card_of N.ops kind (seen number.entry) (seen_cut fields.entry) }
 {
-    let number = count(number)?;
-    let tail = count(fields.tail)?;
-    let head = count(fields.head)?;
-    let value = value(kind, fields.value)?;
+    let number = Token::Number(number).count(kind)?;
+    let tail = Token::Node(fields.tail).count(kind)?;
+    let head = Token::Node(fields.head).count(kind)?;
+    let value = Token::Value(fields.value).measure(kind)?;
     let start = start(kind, fields.fifth)?;
     none_over(kind, fields)?;
     Ok(Placement {

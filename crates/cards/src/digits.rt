@@ -1,17 +1,17 @@
 // Texts of numbers: sign first, digits after.
 ghost use Rattle.std.specs.Prelude.{◌≡◌, ◌≤◌};
-ghost use Rattle.cards.specs.Numerals.{plain, ratio, signed};
+ghost use Rattle.cards.specs.Numerals.{plain, whole, ratio, signed};
 
 use crate::numeral::Numeral;
 
 // The most digits of a branch or node number.
-pub(crate) const NUMBER_DIGITS: usize = 6;
+const NUMBER_DIGITS: usize = 6;
 
 // The most digits of a value's or a start's whole numbers: another rule than that of numbers, with the same limit today.
 const VALUE_DIGITS: usize = 6;
 
 // The number that the digits write, at least one and at most so many.
-pub(crate) fn digits(text: &[u8], most: usize) -> Option<u64>
+fn digits(text: &[u8], most: usize) -> Option<u64>
     requires { most ≤ 10 }
     ensures { result ≡ plain most text.now }
 {
@@ -26,6 +26,18 @@ pub(crate) fn digits(text: &[u8], most: usize) -> Option<u64>
         n = n * 10 + u64::from(*d - b'0');
     }
     Some(n)
+}
+
+// Digits of a branch or node number, over 1.
+pub(crate) fn whole_of(text: &[u8]) -> Option<Numeral>
+    ensures { result ≡ whole text.now }
+{
+    let top = digits(text, NUMBER_DIGITS)?;
+    Some(Numeral {
+        minus: false,
+        top,
+        under: 1,
+    })
 }
 
 // Digits, or digits over digits; 1 stands under digits alone.

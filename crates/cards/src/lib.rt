@@ -11,6 +11,7 @@ mod lines;
 mod numeral;
 mod reader;
 mod scan;
+mod token;
 mod values;
 
 pub use calls::read_cards;
