@@ -15,17 +15,15 @@ impl Arithmetic for f64 {
 
     ghost nil = { nought };
 
-    ghost exact = { false };
+    const EXACT: bool = false;
+
+    ghost EXACT = { false };
 
     ghost nought = { Prim.search rules };
 
     ghost lawful = { Prim.search rules };
 
     ghost onto = { Prim.search rules };
-
-    fn is_exact() -> bool {
-        false
-    }
 
     fn zero() -> f64 {
         0.0

@@ -16,10 +16,10 @@ pub trait Arithmetic: Copy {
     // The value that `zero` answers.
     ghost nil: { Self };
 
-    ghost exact: { Bool };
+    // Whether the arithmetic is exact, and owes the laws below.
+    const EXACT: bool;
 
-    fn is_exact() -> bool
-        ensures { result ≡ exact };
+    ghost EXACT: { Bool };
 
     fn zero() -> Self
         ensures value { result ≡ nil }
@@ -55,9 +55,9 @@ pub trait Arithmetic: Copy {
     ghost nought: { mean nil ≡ ops.nought };
 
     // What an exact arithmetic owes: its laws, and that every meaning is some value's.
-    ghost lawful: { T exact → Exact ops };
+    ghost lawful: { T EXACT → Exact ops };
 
-    ghost onto: { T exact → (m : Meaning) → ((x : Self) × (mean x ≡ m)) };
+    ghost onto: { T EXACT → (m : Meaning) → ((x : Self) × (mean x ≡ m)) };
 }
 
 // Whether a value may be divided by: all but zero may. Every place that refuses a divisor asks this.

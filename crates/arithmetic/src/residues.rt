@@ -39,17 +39,15 @@ impl Arithmetic for u16 {
 
     ghost nil = { 0 };
 
-    ghost exact = { true };
+    const EXACT: bool = true;
+
+    ghost EXACT = { true };
 
     ghost nought = { Prim.search rules };
 
     ghost lawful = { λ _. residue_laws };
 
     ghost onto = { λ _ m. (m.0, residue_of m) };
-
-    fn is_exact() -> bool {
-        true
-    }
 
     fn zero() -> u16
         ensures value { result ≡ 0 }

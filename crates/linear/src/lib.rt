@@ -14,7 +14,7 @@ use arithmetic::Arithmetic;
 // In an exact arithmetic: where every column finds a pivot the found values solve the system and nothing else does;
 // where one finds none, some list that is not all zero goes to zero.
 pub fn linear_systems_stand<N: Arithmetic>()
-    ensures { T N.exact → LinearSystems N.ops }
+    ensures { T N.EXACT → LinearSystems N.ops }
 {}
 
 // In every arithmetic: solving reads and writes nothing but the entries and the right sides of the system.

@@ -189,10 +189,10 @@ pub fn solve<N: Arithmetic>(work: &mut [N], unknowns: usize) -> Result<(), Unsol
     ensures left { map N.mean work.new ≡ leaves N.ops unknowns (map N.mean work.old) }
     ensures alone { result ≡ Err Unsolved.NoRoom → work.new ≡ work.old }
     ensures around { (k : ℕ) → Outside unknowns k → member N.ops (map N.mean work.new) k ≡ member N.ops (map N.mean work.old) k }
-    ensures solves { T N.exact → is_ok result ≡ true → Solution N.ops unknowns (map N.mean work.old) (found N.ops unknowns (map N.mean work.new)) }
-    ensures regular { T N.exact → is_ok result ≡ true → TrivialKernel N.ops unknowns (map N.mean work.old) }
-    ensures granted { T N.exact → fits unknowns (length work.old) ≡ true → TrivialKernel N.ops unknowns (map N.mean work.old) → is_ok result ≡ true }
-    ensures singular { T N.exact → result ≡ Err Unsolved.NoPivot → Singular N.ops unknowns (map N.mean work.old) }
+    ensures solves { T N.EXACT → is_ok result ≡ true → Solution N.ops unknowns (map N.mean work.old) (found N.ops unknowns (map N.mean work.new)) }
+    ensures regular { T N.EXACT → is_ok result ≡ true → TrivialKernel N.ops unknowns (map N.mean work.old) }
+    ensures granted { T N.EXACT → fits unknowns (length work.old) ≡ true → TrivialKernel N.ops unknowns (map N.mean work.old) → is_ok result ≡ true }
+    ensures singular { T N.EXACT → result ≡ Err Unsolved.NoPivot → Singular N.ops unknowns (map N.mean work.old) }
 {
     if !has_room(unknowns, work.len()) {
         return Err(Unsolved::NoRoom);

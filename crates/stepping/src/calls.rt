@@ -119,8 +119,8 @@ pub fn step<N: Arithmetic>(
     work: &mut [N],
 ) -> Result<(), Refusal>
     ensures does { StepDoes N.ops N.mean N.nil plan.now rows.old h work.old (verdict result) rows.new work.new }
-    ensures story { (cs : List (StoryCall N.Meaning)) → run N.ops cs ≡ meant_sheet N.mean (record { plan = plan.now; rows = rows.old }) → Continues N.ops N.exact cs (length rows.old) (length work.old) (N.mean h) (meant_sheet N.mean (record { plan = plan.now; rows = rows.old })) (verdict result) (meant_sheet N.mean (record { plan = plan.now; rows = rows.new })) }
-    ensures stories { T N.exact → TheoremOfStories N.ops }
+    ensures story { (cs : List (StoryCall N.Meaning)) → run N.ops cs ≡ meant_sheet N.mean (record { plan = plan.now; rows = rows.old }) → Continues N.ops N.EXACT cs (length rows.old) (length work.old) (N.mean h) (meant_sheet N.mean (record { plan = plan.now; rows = rows.old })) (verdict result) (meant_sheet N.mean (record { plan = plan.now; rows = rows.new })) }
+    ensures stories { T N.EXACT → TheoremOfStories N.ops }
     ensures trees { TreesOfStories N.ops }
 {
     if !has_areas(rows.len(), work.len()) {

@@ -27,6 +27,6 @@ pub fn trees_of_stories<N: Arithmetic>()
 // In an exact arithmetic, after every story: a step is granted exactly if only the zero list is dead, and its rows are
 // then the one live list; the trees; and the sums of charge and flux.
 pub fn theorem_of_stories<N: Arithmetic>()
-    ensures by_call { T N.exact → TheoremOfStories N.ops }
-    ensures showing { T N.exact → TheoremShowing N.ops }
+    ensures by_call { T N.EXACT → TheoremOfStories N.ops }
+    ensures showing { T N.EXACT → TheoremShowing N.ops }
 {}

@@ -9,13 +9,13 @@ pub returns-then-not-has_areas : goal.returns-then-not-has_areas
 returns-then-not-has_areas g c =
     promise g.N.Arithmetic.ops g.N.Arithmetic.mean g.N.Arithmetic.nil c.args.plan.now c.args.rows.now c.args.h c.args.work.now _ _ _
     (no_areas _ _ _ _ _ _ _ (sym c.has_areas.ensures ∙ c.if-not-has_areas.true))
-    g.N.Arithmetic.exact g.met.N.Arithmetic.lawful
+    g.N.Arithmetic.EXACT g.met.N.Arithmetic.lawful
 
 pub returns-then-not-is_step_length : goal.returns-then-not-is_step_length
 returns-then-not-is_step_length g c =
     promise g.N.Arithmetic.ops g.N.Arithmetic.mean g.N.Arithmetic.nil c.args.plan.now c.args.rows.now c.args.h c.args.work.now _ _ _
     (no_length _ _ _ _ _ _ _ (sym c.has_areas.ensures ∙ c.if-not-has_areas.false) (sym c.is_step_length.ensures ∙ c.if-not-is_step_length.true))
-    g.N.Arithmetic.exact g.met.N.Arithmetic.lawful
+    g.N.Arithmetic.EXACT g.met.N.Arithmetic.lawful
 
 pub returns-in_err-tree : goal.returns-in_err-tree
 returns-in_err-tree g c =
@@ -26,11 +26,11 @@ returns-in_err-tree g c =
     promise o m g.N.Arithmetic.nil c.args.plan.now c.args.rows.now c.args.h c.args.work.now _ _ _
     (subst (λ v. StepDoes o m g.N.Arithmetic.nil c.args.plan.now c.args.rows.now c.args.h c.args.work.now v c.args.rows.now c.args.work.now) (sym told)
     (no_tree _ _ _ _ _ _ _ (sym c.has_areas.ensures ∙ c.if-not-has_areas.false) (sym c.is_step_length.ensures ∙ c.if-not-is_step_length.false) _ c.in_err-tree.ensures.answer))
-    g.N.Arithmetic.exact g.met.N.Arithmetic.lawful
+    g.N.Arithmetic.EXACT g.met.N.Arithmetic.lawful
 
 pub returns : goal.returns
 unfolding cleared
 returns g c =
     promise g.N.Arithmetic.ops g.N.Arithmetic.mean g.N.Arithmetic.nil c.args.plan.now c.args.rows.now c.args.h c.args.work.now _ _ _
     (with-tree _ _ _ _ _ _ _ (sym c.has_areas.ensures ∙ c.if-not-has_areas.false) (sym c.is_step_length.ensures ∙ c.if-not-is_step_length.false) _ _ _ _ c.in_ok-tree.ensures.answer c.settle.ensures.does (ap (λ a. a ++ drop 304 c.args.work.now) c.settle.ensures.area))
-    g.N.Arithmetic.exact g.met.N.Arithmetic.lawful
+    g.N.Arithmetic.EXACT g.met.N.Arithmetic.lawful
