@@ -1,8 +1,9 @@
 -- Bits put in one after another. Assumes nothing.
-use Rattle.std.proofs.Common.{◌≡◌, ℕ, zero, suc, ◌+◌, ◌-◌, ◌*◌, ◌/◌, ◌%◌, ◌^◌, ◌<◌, ◌≤◌, List, [], ◌∷◌, ◌++◌, length, get_or, take, drop, set, replicate, ℤ, pos, sym, refl, ap, ◌∙◌, add-zero, add-one, pow-suc, arith}
+use Rattle.std.proofs.Common.{◌≡◌, ℕ, zero, suc, ◌+◌, ◌-◌, ◌*◌, ◌/◌, ◌%◌, ◌^◌, ◌<◌, ◌≤◌, List, [], ◌∷◌, ◌++◌, length, get_or, take, drop, set, replicate, ℤ, pos, sym, refl, ap, ◌∙◌, add-zero, arith}
 use lib.Bits.{bit_and, bit_or, and_mask}
-use Rattle.std.proofs.Math.Nat.{div-div-eq-div-mul}
-use Rattle.std.proofs.lemmas.List.{length-set, length-take-le, at_drop_more, get_or_append_left, set-append_left, take-append-drop}
+use Rattle.std.proofs.Math.Nat.{pow-succ', div-div-eq-div-mul}
+use Rattle.std.proofs.lemmas.List.{append_assoc, append-nil, length-set, length-take-le, at_drop_more, get_or_append_left, set-append_left, take-append-drop}
+use Rattle.std.specs.Int.{w32, reverse_bits, reverse_bits_onto}
 use Rattle.slips.specs.Bits.{put_bit, put_bits, high, low, zeroed}
 use Rattle.slips.specs.Entries.{code_of, entries_bits}
 use Rattle.slips.specs.Slips.{row_bits}
@@ -19,13 +20,29 @@ word_turn area at count i w h =
     let p : at + (i + 1) ≡ at + i + 1 = omega arith in
     rw (last_bit (w / 2 ^ (count - 1 - i)), k, p, e)
 
-pub tree_turn : (area : List ℕ) (at w : ℕ) → at < 32
-    → put_bits (put_bit area at (bit_and (w / 2 ^ at) 1)) (at + 1) (low (32 - (at + 1)) (w / 2 ^ (at + 1))) ≡ put_bits area at (low (32 - at) (w / 2 ^ at))
-unfolding put_bits low
-tree_turn area at w h =
-    let e : 32 - at ≡ suc (32 - (at + 1)) = omega arith in
-    let half : w / 2 ^ at / 2 ≡ w / 2 ^ (at + 1) = div-div-eq-div-mul w (2 ^ at) 2 ∙ ap (λ (n : ℕ). w / n) (sym (pow-suc 2 at) ∙ ap (λ (n : ℕ). 2 ^ n) (sym (add-one at))) in
-    rw (last_bit (w / 2 ^ at), e, half)
+-- the bits of a number turned around
+high_more : (n a b : ℕ) → b < 2 → high (suc n) (a * 2 + b) ≡ high n a ++ b ∷ []
+unfolding high
+high_more zero a b h = ap (λ (x : ℕ). x ∷ []) (omega arith)
+high_more (suc n) a b h =
+    let half : (a * 2 + b) / 2 ≡ a = omega arith in
+    let e : (a * 2 + b) / 2 ^ suc n ≡ a / 2 ^ n =
+    ap (λ (x : ℕ). (a * 2 + b) / x) (pow-succ' 2 n) ∙ sym (div-div-eq-div-mul (a * 2 + b) 2 (2 ^ n)) ∙ ap (λ (x : ℕ). x / 2 ^ n) half
+    in
+    λ i. e i % 2 ∷ high_more n a b h i
+
+high_onto : (k j w a : ℕ) → high (j + k) (reverse_bits_onto k w a) ≡ high j a ++ low k w
+unfolding low reverse_bits_onto
+high_onto zero j w a = ap (λ (n : ℕ). high n a) (add-zero j) ∙ sym (append-nil (high j a))
+high_onto (suc k) j w a =
+    ap (λ (n : ℕ). high n (reverse_bits_onto k (w / 2) (a * 2 + w % 2))) (omega arith)
+    ∙ high_onto k (suc j) (w / 2) (a * 2 + w % 2)
+    ∙ ap (λ (xs : List ℕ). xs ++ low k (w / 2)) (high_more j a (w % 2) (omega arith))
+    ∙ append_assoc (high j a) (w % 2 ∷ []) (low k (w / 2))
+
+pub high_reversed : (w : ℕ) → high 32 (reverse_bits w32 w) ≡ low 32 w
+unfolding high
+high_reversed w = high_onto 32 0 w 0
 
 pub put_bits-append : (area : List ℕ) (at : ℕ) (xs ys : List ℕ) → put_bits area at (xs ++ ys) ≡ put_bits (put_bits area at xs) (at + length xs) ys
 unfolding put_bits

@@ -2,7 +2,7 @@
 // two clauses more at every call, which area it writes to and where it stands.
 ghost use Rattle.std.specs.Prelude.{◌≡◌, ◌+◌, ◌<◌, ◌≤◌};
 ghost use Rattle.slips.specs.Writing.{opened, blanked, Past};
-ghost use Rattle.slips.specs.Bits.{put_bit, put_bits, high, low};
+ghost use Rattle.slips.specs.Bits.{put_bit, put_bits, high};
 
 // Place 0 is the most significant bit of byte 0.
 fn put_bit(area: &mut [u8; 280], at: usize, bit: u32)
@@ -24,15 +24,6 @@ pub(crate) fn put_word(area: &mut [u8; 280], at: usize, word: u32, count: u32)
     }
 }
 
-// The 32 bits of a tree, place 0 first, at the start of the area.
-fn put_tree(area: &mut [u8; 280], tree: u32)
-    ensures { area.new ≡ put_bits area.old 0 (low 32 tree) }
-{
-    for place in 0..32 {
-        put_bit(area, place, tree >> place & 1);
-    }
-}
-
 // Zeroes 280 bytes; a shorter area is left as it is.
 pub(crate) fn blank_area(area: &mut [u8])
     ensures area { area.new ≡ blanked area.old }
@@ -43,13 +34,13 @@ pub(crate) fn blank_area(area: &mut [u8])
     }
 }
 
-// Zeroes 280 bytes and writes the tree; a shorter area is left as it is.
+// Zeroes 280 bytes and writes the tree, place 0 first; a shorter area is left as it is.
 pub(crate) fn open_area(area: &mut [u8], tree: u32)
     ensures area { area.new ≡ opened tree area.old }
     ensures past { Past area.old area.new }
 {
     blank_area(area);
     if let Some(bits) = area.first_chunk_mut::<280>() {
-        put_tree(bits, tree);
+        put_word(bits, 0, tree.reverse_bits(), 32);
     }
 }

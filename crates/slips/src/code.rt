@@ -23,7 +23,8 @@ pub(crate) fn is_entry(entry: i8) -> bool
     matches!(entry, -1 | 0 | 1)
 }
 
-// `topology` has this question too; slips stand on the sheet alone.
+// `topology` asks this too: to hand one shift and mask down to the sheet would be no plainer. Nor would a type for a place
+// below 32: `entries_of` alone asks, and knows the bound.
 fn is_in(place: u32, word: u32) -> bool
     requires { place < 32 }
     ensures { result ≡ is_in place word }
