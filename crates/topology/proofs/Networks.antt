@@ -1,8 +1,11 @@
 -- The graph of a plan: what a place says of it, and the labels of its nodes.
-use Rattle.std.proofs.Common.{◌≡◌, ℕ, zero, suc, ◌+◌, ◌<◌, Bool, true, false, cond, not, ◌&&◌, eqb, ltb, List, [], ◌∷◌, map, length, get_or, is_some, Some, None, Option, MatchOption, ◌↔◌, leb, sym, refl, ap, ◌∙◌, subst, add-zero, zero-add, add-one, arith}
+use Rattle.std.proofs.Common.{◌≡◌, ℕ, zero, suc, ◌+◌, ◌<◌, Bool, true, false, cond, ◌&&◌, eqb, ltb, List, [], ◌∷◌, map, length, get_or, take, is_some, Some, None, Option, MatchOption, ◌↔◌, leb, sym, refl, ap, ◌∙◌, subst, add-zero, zero-add, add-one, arith}
 use Rattle.std.proofs.lemmas.List.{length-map, get_or-map}
 use Rattle.std.proofs.lemmas.Bool.{lt-ltb, ltb-true, and_parts, eq-eqb, ne_eqb, cond-true, cond-false, both_ways}
+use Rattle.std.specs.List.{list_any}
 use mathlib.Core.Path.{fun_ext}
+use denote.Enum.Bare.{sameb, same_true, true_same}
+use Rattle.sheet.specs.contracts.kind.Kind.{the_type}
 use Rattle.sheet.specs.declared.branch.Branch.{Branch}
 use Rattle.sheet.specs.declared.kind.Kind.{Kind}
 use Rattle.sheet.specs.declared.kind.Kind.TheVariants.{Resistor, Inductor, Capacitor, VoltageSource, CurrentSource}
@@ -13,7 +16,7 @@ use Rattle.graphs.specs.Graph.{Graph, Set, ◌∈◌, without, both, Below, plus
 use Rattle.graphs.specs.Labels.{label, merge, joins}
 use Rattle.graphs.proofs.Labels.{label_in, label_out}
 use Rattle.graphs.specs.Greedy.{up_to, of_class}
-use Rattle.topology.specs.Networks.{kind_class, passes, among, class_of, tail_of, head_of, class_found, graph_of, placed, class_at, Labelled, alike}
+use Rattle.topology.specs.Networks.{kind_class, passes, listed, among, class_of, tail_of, head_of, class_found, graph_of, placed, class_at, Labelled, alike}
 
 pub placed_below : (p : Plan) → Below 32 (placed p)
 unfolding placed
@@ -61,6 +64,10 @@ pub kind_is : (x y : Kind) (r : Bool) → (r ≡ true ↔ x ≡ y) → r ≡ eqb
 kind_is x y true h = sym (eq-eqb _ _ (ap kind_class (h.0 refl)))
 kind_is x y false h = sym (ne_eqb _ _ (λ same. both_ways false refl (h.1 (same_kind x y same))))
 
+-- the program's test of a list for a kind
+pub listed_is : (ks : List Kind) (kind : Kind) → list_any (λ one. sameb the_type one kind) ks ≡ listed ks kind
+listed_is ks kind = ap (λ (test : Kind → Bool). list_any test ks) (fun_ext (λ one. kind_is one kind (sameb the_type one kind) (same_true the_type tt one kind, true_same the_type one kind)))
+
 -- a test of what stands at a place for one kind
 pub kind_found : (p : Plan) (k : ℕ) (kind : Kind) (o : Option Branch) (r : Bool) → k < 32 → o ≡ branch_at p k → MatchOption o (r ≡ false) (λ b. r ≡ true ↔ b.kind ≡ kind) → r ≡ of_class (class_at p) (kind_class kind) (placed p) k
 kind_found p k kind None r lt e h = h ∙ class_none p k (λ n. eqb n (kind_class kind)) e
@@ -90,14 +97,14 @@ among_up_to p test c same = fun_ext (λ k. go (ltb k 32) (branch_at p k))
     go true (Some b) = same b.kind
 
 -- the first class alone, and all but the last
-pub voltage_low : (kind : Kind) → eqb (kind_class kind) 0 ≡ leb (kind_class kind) 0
+pub voltage_low : (kind : Kind) → listed (take 1 kinds) kind ≡ leb (kind_class kind) 0
 voltage_low Resistor = refl
 voltage_low Inductor = refl
 voltage_low Capacitor = refl
 voltage_low VoltageSource = refl
 voltage_low CurrentSource = refl
 
-pub no_current_low : (kind : Kind) → not (eqb (kind_class kind) 4) ≡ leb (kind_class kind) 3
+pub no_current_low : (kind : Kind) → listed (take 4 kinds) kind ≡ leb (kind_class kind) 3
 no_current_low Resistor = refl
 no_current_low Inductor = refl
 no_current_low Capacitor = refl

@@ -9,10 +9,12 @@
 -- placed p      the places, 0 to 31, that hold a branch
 -- class_at p    the class at each place
 -- passes t o    what stands at a place is of a kind that passes the test t
+-- listed ks o   the kind o is one of the list ks
 -- among t p     the placed branches of the kinds that pass the test t
 -- Labelled      a list has the labels of the nodes 0 to 15 when the members of S below m are merged
 -- alike ls a    the nodes with the label that the node a has in the list
 use Rattle.std.specs.Prelude.{◌≡◌, ℕ, ◌<◌, Bool, false, ◌&&◌, List, length, is_some, Some, None, Option, ◌==◌, nat_lt, slice_index}
+use Rattle.std.specs.List.{list_any}
 use Rattle.sheet.specs.declared.branch.Branch.{Branch}
 use Rattle.sheet.specs.declared.kind.Kind.{Kind}
 use Rattle.sheet.specs.declared.kind.Kind.TheVariants.{Resistor, Inductor, Capacitor, VoltageSource, CurrentSource}
@@ -55,6 +57,9 @@ class_at p k = class_found (branch_at p k)
 abbrev pub passes : (Kind → Bool) → Option Branch → Bool
 passes test None = false
 passes test (Some b) = test b.kind
+
+abbrev pub listed : List Kind → Kind → Bool
+listed kinds kind = list_any (λ one. kind_class one == kind_class kind) kinds
 
 unfoldable pub among : (Kind → Bool) → Plan → Set
 among test p k = nat_lt k 32 && passes test (branch_at p k)

@@ -12,9 +12,7 @@ mod sign;
 mod words;
 
 pub use calls::{cut_row, incidence, loop_row, row_laws, tree};
-pub use network::{
-    branches_where, is_placed, no_current_sources, placed_branches, voltage_sources,
-};
+pub use network::{branches_of, is_placed, no_current_sources, placed_branches, voltage_sources};
 pub use rows::{cut_of_branch, sign_at};
 pub use sign::Sign;
 pub use words::{common, either, has, less};

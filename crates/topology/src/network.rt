@@ -1,8 +1,7 @@
 // A plan as a graph: the ends and the kinds of its branches.
-ghost use Rattle.std.specs.Prelude.{◌≡◌, ◌<◌, Bool};
+ghost use Rattle.std.specs.Prelude.{◌≡◌, ◌<◌};
 ghost use Rattle.graphs.specs.Greedy.{up_to, of_class};
-ghost use Rattle.sheet.specs.declared.kind.Kind.{Kind};
-ghost use Rattle.topology.specs.Networks.{kind_class, graph_of, placed, class_at, among};
+ghost use Rattle.topology.specs.Networks.{kind_class, graph_of, placed, class_at, listed, among};
 ghost use Rattle.topology.specs.Words.{bits};
 
 use crate::words::numbers_where;
@@ -50,6 +49,7 @@ pub fn is_placed(plan: &Plan, k: u32) -> bool
     k < 32 && plan.at(k).is_some()
 }
 
+// The bound on k is a premise, as in `insert_if`: a type for it is no plainer.
 pub(crate) fn is_of_kind(plan: &Plan, kind: Kind, k: u32) -> bool
     requires { k < 32 }
     ensures { result ≡ of_class (class_at plan.now) (kind_class kind) (placed plan.now) k }
@@ -57,26 +57,27 @@ pub(crate) fn is_of_kind(plan: &Plan, kind: Kind, k: u32) -> bool
     plan.at(k).is_some_and(|branch| branch.kind == kind)
 }
 
-// The branches whose kind passes.
-pub fn branches_where<F: Fn(Kind) -> bool>(plan: &Plan, passes: F) -> u32
-    requires { F.IsAlwaysCallable passes }
-    ensures { (test : Kind → Bool) → ((kind : Kind) (b : Bool) → F.post passes kind b → b ≡ test kind) → bits result ≡ among test plan.now }
+// The branches of the kinds in a list.
+pub fn branches_of(plan: &Plan, kinds: &[Kind]) -> u32
+    ensures { bits result ≡ among (listed kinds.now) plan.now }
 {
-    numbers_where(|k| plan.at(k).is_some_and(|branch| passes(branch.kind)))
+    numbers_where(|k| plan
+        .at(k)
+        .is_some_and(|branch| kinds.contains(&branch.kind)))
 }
 
 // The voltage sources.
 pub fn voltage_sources(plan: &Plan) -> u32
     ensures { bits result ≡ up_to (class_at plan.now) 0 (placed plan.now) }
 {
-    branches_where(plan, |kind| kind == Kind::VoltageSource)
+    branches_of(plan, &[Kind::VoltageSource])
 }
 
-// All branches but the current sources.
+// All branches but the current sources, which come last in the order.
 pub fn no_current_sources(plan: &Plan) -> u32
     ensures { bits result ≡ up_to (class_at plan.now) 3 (placed plan.now) }
 {
-    branches_where(plan, |kind| kind != Kind::CurrentSource)
+    branches_of(plan, &ORDER[..4])
 }
 
 // All branches.
