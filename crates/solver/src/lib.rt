@@ -67,11 +67,10 @@ impl<N: Arithmetic> System<'_, N> {
 
     // Every row below the pivot's loses its multiple of it, in turn.
     fn clear_below(&mut self, pivot: u32)
-        requires { pivot < self.old.unknowns }
         ensures { Becomes N.mean (clear N.ops self.old.unknowns pivot) self.old self.new }
     {
         let unknowns = self.unknowns;
-        for row in pivot + 1..unknowns {
+        for row in pivot.saturating_add(1)..unknowns {
             self.lose_row(pivot, row);
         }
     }
@@ -104,7 +103,6 @@ impl<N: Arithmetic> System<'_, N> {
 
     // Swaps the pivot's row up and clears the rows below. Nothing changes where the column has no pivot.
     fn eliminate_column(&mut self, column: u32) -> Result<(), Unsolved>
-        requires { column < self.old.unknowns }
         ensures answer { result ≡ answered true (eliminate_column N.ops self.old.unknowns column (map N.mean self.old.work.now)).ok }
         ensures left { Becomes N.mean (λ w. (eliminate_column N.ops self.old.unknowns column w).left) self.old self.new }
     {
@@ -146,11 +144,10 @@ impl<N: Arithmetic> System<'_, N> {
 
     // Finds a row's unknown from those of the rows below, columns ascending.
     fn back_row(&mut self, row: u32)
-        requires { row < self.old.unknowns }
         ensures { Becomes N.mean (back_row N.ops self.old.unknowns row) self.old self.new }
     {
         let unknowns = self.unknowns;
-        for column in row + 1..unknowns {
+        for column in row.saturating_add(1)..unknowns {
             self.lose_found(row, column);
         }
         self.divide_row(row);
