@@ -1,9 +1,10 @@
 -- The figures of a step, from each of their cases. Assumes nothing.
 use Rattle.std.proofs.Common.{◌≡◌, ℕ, ◌<◌, true, false, cond, ◌||◌, List, get_or, sym, refl, ap, ◌∙◌}
+use Rattle.std.proofs.lemmas.Bool.{cond-true, cond-false}
 use Rattle.arithmetic.specs.Ops.{Ops}
 use Rattle.graphs.specs.Graph.{◌∈◌}
 use Rattle.graphs.specs.Cuts.{turned}
-use Rattle.stories.specs.Assembly.{through, taken, Parts}
+use Rattle.stories.specs.Assembly.{Parts}
 use Rattle.stories.specs.Steps.{tree_voltage, voltage_of, flow_of, current_of}
 use Rattle.topology.specs.Words.{bits}
 use Rattle.assembly.specs.declared.frame.Frame.{Frame}
@@ -13,7 +14,7 @@ use Rattle.assembly.specs.Figures.{in_use, link_voltage, Filled}
 -- the current of a voltage source, from what the links of its cut leave
 pub current_fixed : {M : Type 0} (o : Ops M) (c : Parts M) (x : ℕ → M) (k : ℕ) → c.fixed k ≡ true → gathered o c.link (λ j. turned (c.row k j)) (flow_of o c x) o.nought ≡ current_of o c x k
 unfolding current_of gathered
-current_fixed o c x k is_fixed = sym (ap (λ b. cond b (through (λ j a. cond (c.link j) (taken o (turned (c.row k j)) (flow_of o c x j) a) a) 32 o.nought) (flow_of o c x k)) is_fixed)
+current_fixed o c x k is_fixed = sym (cond-true _ _ _ is_fixed)
 
 module _ {M : Type 0} (o : Ops M) (c : Parts M) (f : Frame) (fr : Frames c f) (x : ℕ → M) where
   whole : (k : ℕ) → cond (c.tree k) (tree_voltage c x k) (link_voltage o c x k) ≡ voltage_of o c x k
@@ -21,18 +22,18 @@ module _ {M : Type 0} (o : Ops M) (c : Parts M) (f : Frame) (fr : Frames c f) (x
   whole k = refl
 
   pub voltage_tree : (k : ℕ) → bits f.tree k ≡ true → tree_voltage c x k ≡ voltage_of o c x k
-  voltage_tree k m = sym (ap (λ b. cond b (tree_voltage c x k) (link_voltage o c x k)) (sym (ap (λ S. S k) fr.tree) ∙ m)) ∙ whole k
+  voltage_tree k m = sym (cond-true _ _ _ (sym (ap (λ S. S k) fr.tree) ∙ m)) ∙ whole k
 
   pub voltage_link : (k : ℕ) → bits f.tree k ≡ false → link_voltage o c x k ≡ voltage_of o c x k
-  voltage_link k m = sym (ap (λ b. cond b (tree_voltage c x k) (link_voltage o c x k)) (sym (ap (λ S. S k) fr.tree) ∙ m)) ∙ whole k
+  voltage_link k m = sym (cond-false _ _ _ (sym (ap (λ S. S k) fr.tree) ∙ m)) ∙ whole k
 
   pub flow_passive : (k : ℕ) → bits f.passive k ≡ true → o.add (o.mul (c.conductance k) (voltage_of o c x k)) (c.feed k) ≡ flow_of o c x k
   unfolding flow_of
-  flow_passive k m = sym (ap (λ b. cond b (o.add (o.mul (c.conductance k) (voltage_of o c x k)) (c.feed k)) (c.feed k)) (sym (ap (λ S. S k) fr.passive) ∙ m))
+  flow_passive k m = sym (cond-true _ _ _ (sym (ap (λ S. S k) fr.passive) ∙ m))
 
   pub flow_other : (k : ℕ) → bits f.passive k ≡ false → c.feed k ≡ flow_of o c x k
   unfolding flow_of
-  flow_other k m = sym (ap (λ b. cond b (o.add (o.mul (c.conductance k) (voltage_of o c x k)) (c.feed k)) (c.feed k)) (sym (ap (λ S. S k) fr.passive) ∙ m))
+  flow_other k m = sym (cond-false _ _ _ (sym (ap (λ S. S k) fr.passive) ∙ m))
 
   pub passive_in : (k : ℕ) → bits f.passive k ≡ true → k ∈ c.passive
   passive_in k m = sym (ap (λ S. S k) fr.passive) ∙ m
@@ -43,4 +44,4 @@ module _ {M : Type 0} (o : Ops M) (c : Parts M) (f : Frame) (fr : Frames c f) (x
   current-other k flows l m h u =
       let is_not = sym (ap (λ S. S k) fr.fixed) ∙ m in
       h.each k l (sym (ap (λ b. b || c.feeding k) is_not) ∙ u)
-      ∙ sym (ap (λ b. cond b (through (λ j a. cond (c.link j) (taken o (turned (c.row k j)) (flow_of o c x j) a) a) 32 o.nought) (flow_of o c x k)) is_not)
+      ∙ sym (cond-false _ _ _ is_not)

@@ -1,6 +1,7 @@
 -- Gathered sums are the sums of the parts that a frame and an area hold. Assumes nothing.
 use Rattle.std.proofs.Common.{ltb, length, is_some, Some, None, Option, MatchOption, IfSome, count_by, ◌≡◌, ℕ, zero, suc, ◌+◌, Bool, true, false, cond, List, ◌∷◌, get_or, set, sym, refl, ap, ◌∙◌, subst, ap₂, arith, get_or-set_other}
 use Rattle.std.specs.List.{range_with_len}
+use Rattle.std.proofs.lemmas.Bool.{cond-true}
 use Rattle.std.proofs.lemmas.List.Sums.{sum_by-cons}
 use Rattle.std.proofs.lemmas.List.{get_or-map, get_or_past, length-map}
 use denote.Ref.{Bor}
@@ -23,6 +24,10 @@ module _ {M : Type 0} (o : Ops M) where
   pub turn_same : (b c : Bool) (s r : Sign) (x y a : M) → b ≡ c → (c ≡ true → s ≡ r) → (c ≡ true → x ≡ y) → cond b (taken o s x a) a ≡ cond c (taken o r y a) a
   turn_same b true s r x y a e f h = ap (λ b. cond b (taken o s x a) a) e ∙ ap (λ s. taken o s x a) (f refl) ∙ ap (λ x. taken o r x a) (h refl)
   turn_same b false s r x y a e f h = ap (λ b. cond b (taken o s x a) a) e
+
+-- what a word's question says of the set that it means
+pub asked : {S R : Set} (k : ℕ) {r b : Bool} → S ≡ R → r ≡ S k → r ≡ b → R k ≡ b
+asked k e h i = sym (ap (λ S. S k) e) ∙ sym h ∙ i
 
 -- one turn of the right side
 abbrev pub right_turn : {M : Type 0} → Ops M → Parts M → ℕ → ℕ → M → M
@@ -111,7 +116,7 @@ module _ {M : Type 0} (o : Ops M) (c : Parts M) where
     entry_written t r w v x row column place m i j d p q =
         q ∙ ap (set w place) d
         ∙ ap (λ (k : ℕ). set w k (entry_of o c t r)) (p ∙ ap₂ (λ (a b : ℕ). cell a b) (place_is t row i) (place_is r column j))
-        ∙ sym (ap (λ b. cond b (set w (cell (count c.unknown t) (count c.unknown r)) (entry_of o c t r)) w) m)
+        ∙ sym (cond-true _ _ _ m)
 
     -- a row is its entries and its right side
     pub row_written :
@@ -122,7 +127,7 @@ module _ {M : Type 0} (o : Ops M) (c : Parts M) where
     row_written t w u v x row column place m e i j d p q =
         q ∙ ap (λ u. set u place x) e ∙ ap (set (entered o c t w) place) d
         ∙ ap (λ (k : ℕ). set (entered o c t w) k (right_of o c t)) (p ∙ ap₂ (λ (a b : ℕ). cell a b) (place_is t row i) (place_is 32 column j))
-        ∙ sym (ap (λ b. cond b (with_row o c t w) w) m)
+        ∙ sym (cond-true _ _ _ m)
 
 -- the level of a row that is looked up
 pub level_read :

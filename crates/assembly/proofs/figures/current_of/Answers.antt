@@ -5,6 +5,7 @@ use Rattle.topology.specs.Matrices.{entry}
 use Rattle.topology.specs.Rows.{sign_of}
 use Rattle.assembly.specs.Frames.{gathered}
 use Rattle.assembly.proofs.Filling.{current_fixed, current-other}
+use Rattle.assembly.proofs.Reading.{asked}
 use Rattle.assembly.proofs.figures.current_of.Goals as goal
 
 pub returns-then-has : goal.returns-then-has
@@ -13,7 +14,7 @@ returns-then-has g c parts x fr h u =
     let m = g.N.Arithmetic.mean in
     let k = c.args.k in
     let row = c.turn_row-row.result in
-    let is_fixed = sym (ap (λ S. S k) fr.fixed) ∙ sym c.has.ensures ∙ c.if-has.true in
+    let is_fixed = asked k fr.fixed c.has.ensures c.if-has.true in
     c.gather.ensures parts.link (λ j. turned (parts.row k j)) (flow_of o parts x) fr.link
     (λ j s l i called.
     let is : sign_of s ≡ entry row j = search rules in

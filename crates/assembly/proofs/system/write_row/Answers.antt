@@ -1,5 +1,4 @@
-use Rattle.std.proofs.Common.{sym, ap, ◌∙◌}
-use Rattle.assembly.proofs.Reading.{row_written, entered-kept}
+use Rattle.assembly.proofs.Reading.{asked, row_written, entered-kept}
 use Rattle.assembly.proofs.system.write_row.Goals as goal
 
 pub returns-then-has : goal.returns-then-has
@@ -7,7 +6,7 @@ returns-then-has g c parts sets =
     let o = g.N.Arithmetic.ops in
     let fr = sets.frames in
     let t = c.args.t in
-    let is_unknown = sym (ap (λ S. S t) fr.unknown) ∙ sym c.has.ensures ∙ c.if-has.true in
+    let is_unknown = asked t fr.unknown c.has.ensures c.if-has.true in
     let mt = fr.unknown_in t is_unknown in
     let entries = c.write_entries.ensures parts sets mt in
     let kept = entered-kept o parts t _ _ sets.holds entries in

@@ -1,9 +1,11 @@
-use Rattle.std.proofs.Common.{◌≡◌, cond, map, get_or, rules, sym, ap, ◌∙◌, ap₂, arith}
+use Rattle.std.proofs.Common.{◌≡◌, map, get_or, rules, sym, ap, ◌∙◌, ap₂, arith}
+use Rattle.std.proofs.lemmas.Bool.{cond-true}
 use Rattle.graphs.specs.Cuts.{turned}
 use Rattle.stories.specs.Assembly.{agree, levelled}
 use Rattle.topology.specs.Matrices.{entry}
 use Rattle.topology.specs.Rows.{sign_of}
 use Rattle.assembly.specs.Frames.{gathered}
+use Rattle.assembly.proofs.Reading.{asked}
 use Rattle.assembly.proofs.setting.Setting.level_by.Goals as goal
 
 pub returns : goal.returns
@@ -16,7 +18,7 @@ returns g c parts sets mt =
     let fr = sets.frames in
     let both = c.agreement.result in
     let row = c.turn_row-row.result in
-    let is_fixed = sym (ap (λ S. S v) fr.fixed) ∙ sym c.has.ensures ∙ c.if-not-has.false in
+    let is_fixed = asked v fr.fixed c.has.ensures c.if-not-has.false in
     let level = c.level-level.ensures ∙ sets.levels v (omega arith) is_fixed in
     c.gather.ensures parts.passive (λ k. turned (agree (parts.row t k) (parts.row v k))) (λ k. o.mul (parts.conductance k) (parts.level v)) fr.passive
     (λ k s l i called.
@@ -25,4 +27,4 @@ returns g c parts sets mt =
     (λ k y l i called.
     let is : m y ≡ o.mul (get_or (map m c.args.self.now.area.now) k o.nought) (m c.level-level.result) = search rules in
     is ∙ ap₂ o.mul (sets.holds.conductance k l i) level)
-    ∙ sym (ap (λ b. cond b (levelled o parts t v (m c.args.sum)) (m c.args.sum)) is_fixed)
+    ∙ sym (cond-true _ _ _ is_fixed)
