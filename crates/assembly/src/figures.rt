@@ -1,5 +1,6 @@
 // Currents and voltages from the solved system. Each contract asks for what it reads and no more of frame, area and rows,
-// and for a place below 32 where figures of all places are read, which are known up to there.
+// and for a place below 32 where figures of all places are read, which are known up to there. Figures stand in arrays of
+// 32, the places of a plan, since a step asks for no memory.
 ghost use Rattle.std.specs.Prelude.{◌≡◌, ℕ, ◌<◌, true, map, length};
 ghost use Rattle.assembly.specs.Figures.{all, in_use, found, link_voltage, Filled};
 ghost use Rattle.assembly.specs.Frames.{Frames, Holds, Levels, levels_of};

@@ -12,7 +12,8 @@ use linear::get;
 use sheet::Row;
 use topology::{has, sign_at};
 
-// The frame, the area with the companions of the branches, and the rows with the voltages of the sources.
+// The frame, the area with the companions of the branches, and the rows with the voltages of the sources. The contracts
+// speak of any parts that these have (`Sets`) and of the parts' tree: a ghost field would ask callers for some parts.
 #[derive(Clone, Copy)]
 pub struct Setting<'a, N> {
     pub frame: &'a Frame,
