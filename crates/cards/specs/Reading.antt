@@ -2,6 +2,7 @@
 --
 -- Named        a fault: who refuses, by which number, and at which line and byte
 -- named        what a fault of the program says
+-- fault_text   a fault in words: its number, `line` and the line, `byte` and the byte
 -- report       what a result of the program says: nothing, or a fault
 -- State M      how far it came: nothing wrong or a fault, and the sheet with rows by meaning
 -- state_of     the state that the program is in
@@ -12,7 +13,7 @@
 -- lines_done   the lines after the first so many
 -- begun        the lines, once the sheet is blank
 -- cards_read   a whole text: refused by 1, or blank and line by line
-use Rattle.std.specs.Prelude.{ℕ, suc, List, [], ◌∷◌, length, Some, None, Ok, Err, Option, Result}
+use Rattle.std.specs.Prelude.{ℕ, suc, List, [], ◌∷◌, ◌++◌, length, Some, None, Ok, Err, codes, decimal, Option, Result}
 use Rattle.arithmetic.specs.Ops.{Ops}
 use Rattle.sheet.specs.declared.placement.Placement.{Placement}
 use Rattle.sheet.specs.declared.plan.Plan.{Plan}
@@ -34,6 +35,9 @@ pub record Named : Type 0 where
 
 abbrev pub named : Fault → Named
 named f = record { layer = f.layer; told = means f.refusal; line = f.line; byte = f.byte }
+
+abbrev pub fault_text : Named → List ℕ
+fault_text f = decimal f.told.number ++ codes " line " ++ decimal f.line ++ codes " byte " ++ decimal f.byte
 
 abbrev pub report : {X : Type 0} → Result X Fault → Option Named
 report (Ok x) = None

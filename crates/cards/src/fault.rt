@@ -1,7 +1,10 @@
 // What is wrong with a text of cards, and where.
-ghost use Rattle.std.specs.Prelude.{◌≡◌};
+ghost use Rattle.std.specs.Prelude.{◌≡◌, Some};
+ghost use Rattle.cards.specs.Reading.{fault_text, named};
 
 use sheet::Refusal;
+use std::error::Error;
+use std::fmt;
 
 // Who refuses: the card rules, or the sheet that the card is placed on.
 #[derive(Clone, Copy, PartialEq, Eq, Debug)]
@@ -18,6 +21,17 @@ pub struct Fault {
     pub line: usize,
     pub byte: usize,
 }
+
+// `7 line 1 byte 1`: the number of the refusal, the line and the byte.
+impl fmt::Display for Fault {
+    ghost output = { λ f. Some (fault_text (named f)) };
+
+    fn fmt<W: fmt::Write>(&self, f: &mut fmt::Formatter<W>) -> fmt::Result {
+        write!(f, "{} line {} byte {}", self.refusal, self.line, self.byte)
+    }
+}
+
+impl Error for Fault {}
 
 // A fault within one line.
 #[derive(Clone, Copy)]
