@@ -7,7 +7,7 @@ use Rattle.std.specs.List.{position, position_or_len, slice_range}
 use Rattle.std.specs.Option.{unwrap_or}
 use Rattle.std.proofs.lemmas.List.{take_rest, drop-drop, drop_all, length-take-le, take_all, get_or-drop}
 use Rattle.std.proofs.lemmas.Bool.{ltb-false, eqb-true, ne_eqb, le-leb, lt-leb, cond-true, cond-false}
-use Rattle.cards.specs.Fields.{Word, worded, words, words_from, word_at, missing, word_end, First}
+use Rattle.cards.specs.Fields.{worded, words_from, missing, First}
 use Rattle.cards.specs.Lines.{lines_from}
 use Rattle.cards.specs.Parts.{reach, further, parts, before, onto}
 
@@ -133,16 +133,6 @@ pub first_field : (line : List ℕ) (from at : ℕ) → at ≤ length line → w
 first_field line from at within same stops =
     past_field line from at (drop at line) refl within same
     (λ lt is. stops lt (ap (λ n. get_or line n 0) (sym (add-zero at)) ∙ sym (get_or-drop at line 0 0) ∙ is))
-
--- fields one after another: the next begins past the last
-pub next_fields : (line : List ℕ) (k from n : ℕ) (w : Word) → words_from from (drop from line) ≡ drop k (words line) → First line from w → n ≡ word_end w
-    → words_from n (drop n line) ≡ drop (k + 1) (words line)
-next_fields line k from n w all f e =
-    ap (λ m. words_from m (drop m line)) e ∙ f.more ∙ ap (drop 1) all ∙ drop-drop 1 k (words line)
-
-pub this_field : (line : List ℕ) (k from : ℕ) (w : Word) → words_from from (drop from line) ≡ drop k (words line) → First line from w → w ≡ word_at line k
-this_field line k from w all f =
-    f.is ∙ ap (λ ws. get_or ws 0 (missing line)) all ∙ get_or-drop k (words line) 0 (missing line) ∙ ap (λ n. get_or (words line) n (missing line)) (add-zero k)
 
 -- the next line is the next piece
 lines_more : (input : List ℕ) (at r : ℕ) → at ≤ length input → r ≡ reach 10 (drop at input)

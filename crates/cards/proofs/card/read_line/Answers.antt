@@ -4,7 +4,7 @@ use Rattle.sheet.specs.declared.refusal.Refusal.TheVariants.{NoSuchLetter}
 use Rattle.cards.specs.declared.fault.Wrong.{Wrong}
 use Rattle.cards.specs.Cards.{right, then, card_of, opened, line_of}
 use Rattle.cards.specs.Fields.{seen_cut}
-use Rattle.cards.proofs.Chains.{card_line, no_kind, was_ok, was_some}
+use Rattle.cards.proofs.Chains.{card_line, was_ok, was_some}
 use Rattle.cards.proofs.card.read_line.Given as given
 use Rattle.cards.proofs.card.read_line.Goals as goal
 use Rattle.cards.proofs.card.read_line.Goals.{After-card}
@@ -22,16 +22,6 @@ found g c =
     let letter = was_some _ NoSuchLetter c.in_ok-kind-in-len1-up.kind (sym c.try_from.ensures ∙ was) in
     card_line g.N.Arithmetic.ops c.in_ok-kind-in-len1-up.kind (seen_cut c.cut-fields.result) text _ some star letter refl
     ∙ ap (λ x. opened g.N.Arithmetic.ops x.first.text x) c.cut-fields.ensures
-
-pub returns-in_err-kind-in-len1-up : goal.returns-in_err-kind-in-len1-up
-returns-in_err-kind-in-len1-up g c =
-    let text = c.cut-fields.result.first.text.now in
-    let some : 0 < length text = search rules in
-    let star : get_or text 0 0 ≡ 42 → ⊥ = search rules in
-    let p = err_from_is_err_and c.from_residual.result c.from_residual.ensures.1 in
-    rw (p.1, p.2)
-    (no_kind g.N.Arithmetic.ops (seen_cut c.cut-fields.result) text c.try_from.result _ _ some star c.try_from.ensures c.in_err-kind-in-len1-up.ensures.cases (λ e k. search rules)
-    ∙ ap (λ x. opened g.N.Arithmetic.ops x.first.text x) c.cut-fields.ensures)
 
 pub returns-in_err-card-in-len1-up : goal.returns-in_err-card-in-len1-up
 returns-in_err-card-in-len1-up g c =
