@@ -1,5 +1,5 @@
 -- What the tree's call answers, from what is found.
-use Rattle.std.proofs.Common.{◌≡◌, ℕ, Bool, cond, is_some, Some, None, Option, IfSome, ap, ◌∙◌}
+use Rattle.std.proofs.Common.{◌≡◌, ℕ, Bool, cond, is_some, Some, None, Option, IfSome, sym, subst, ap, ◌∙◌}
 use Rattle.sheet.specs.declared.plan.Plan.{Plan}
 use Rattle.sheet.specs.declared.refusal.Shown.{Shown}
 use Rattle.sheet.specs.Refusals.{Answer, granted, refused, shown_of}
@@ -53,3 +53,7 @@ cut-shown p q k x s is at e = e ∙ (λ i. cut_from (graph_of p) (is i) (at i))
 pub shown_if : (o : Option Shown) (b : Bool) (s : Shown) → is_some o ≡ b → IfSome o (λ x. x ≡ s) → o ≡ cond b (Some s) None
 shown_if None b s is h = ap (λ t. cond t (Some s) None) is
 shown_if (Some x) b s is h = ap Some h ∙ ap (λ t. cond t (Some s) None) is
+
+-- an answer with what it means
+pub with_meaning : {X : Type 0} (M : X → Type 0) {a b : X} → M b → a ≡ b → record { answer : a ≡ b; meaning : M a }
+with_meaning M m e = record { answer = e; meaning = subst M (sym e) m }
