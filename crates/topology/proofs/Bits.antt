@@ -1,12 +1,12 @@
 -- Bits of words, and the sets that words stand for.
-use Rattle.std.proofs.Common.{◌≡◌, ℕ, zero, suc, ◌+◌, ◌-◌, ◌*◌, ◌/◌, ◌%◌, ◌^◌, ◌<◌, ◌≤◌, Bool, true, false, cond, not, ◌&&◌, ◌||◌, eqb, ltb, ◌⊎◌, sym, refl, ap, ◌∙◌, subst, ap₂, inl, inr, add-zero, mod-eq_of_lt, one-mul, pow-suc, zero-mul, add-one, one-add, arith, pow_mono}
+use Rattle.std.proofs.Common.{min, max, ◌≡◌, ℕ, zero, suc, ◌+◌, ◌*◌, ◌/◌, ◌%◌, ◌^◌, ◌<◌, ◌≤◌, Bool, true, false, cond, not, ◌&&◌, ◌||◌, eqb, ltb, ◌⊎◌, sym, refl, ap, ◌∙◌, ap₂, inl, inr, add-zero, one-mul, pow-suc, add-one, arith}
 use mathlib.Core.Path.{fun_ext}
 use mathlib.Core.Bool.{or-false, and-true}
-use native.Mathlib.Nat.{div-eq_of_lt, mod-one, mul-mod_left}
 use lib.Bits.{bit_and, bit_or, bit_xor, or_shifted_r}
-use lib.Pow.{pow-lt}
-use Rattle.std.proofs.lemmas.Nat.{pow-add, shl-shr, and_shr, or_shr, xor_shr, and_mod, or_mod, xor_mod, mod-pow-add, mod_below, one_shl}
-use Rattle.std.proofs.lemmas.Bool.{eq-eqb, ne_eqb, cases_eq, cases_lt, cases_order, lt-ltb, le-ltb, and_left, and_right, and_from, or_right, both_ways}
+use Rattle.std.proofs.lemmas.Nat.{mod_below, one_shl}
+use Rattle.std.proofs.lemmas.Nat.Bits.{bit_at_and, bit_at_or, bit_at_xor, bit_at_above, bit_at-pow_same, bit_at-pow_other, same_from_bits_below}
+use Rattle.std.specs.Int.{bit_at}
+use Rattle.std.proofs.lemmas.Bool.{eq-eqb, ne_eqb, cases_eq, cases_lt, lt-ltb, le-ltb, and_left, and_right, and_from, or_right, both_ways}
 use Rattle.graphs.specs.Graph.{Set, with, without, Below}
 use Rattle.graphs.proofs.Sets.{under_less, under_same, same}
 use Rattle.topology.specs.Words.{bits, those, word, under}
@@ -33,50 +33,33 @@ by_bit P a b c d m n = go (m % 2) (n % 2) (mod_below m 2 (omega arith)) (mod_bel
 
 pub bits-and : (a b k : ℕ) → bits (bit_and a b) k ≡ (bits a k && bits b k)
 unfolding bits
-bits-and a b k =
-    ap (λ x. eqb (x % 2) 1) (and_shr a b k)
-    ∙ ap (λ x. eqb x 1) (and_mod (a / 2 ^ k) (b / 2 ^ k) 1)
-    ∙ by_bit (λ x y. eqb (bit_and x y) 1 ≡ (eqb x 1 && eqb y 1)) refl refl refl refl (a / 2 ^ k) (b / 2 ^ k)
+bits-and a b k = ap (λ x. eqb x 1) (bit_at_and a b k) ∙ by_bit (λ x y. eqb (min x y) 1 ≡ (eqb x 1 && eqb y 1)) refl refl refl refl (a / 2 ^ k) (b / 2 ^ k)
 
 pub bits-or : (a b k : ℕ) → bits (bit_or a b) k ≡ (bits a k || bits b k)
 unfolding bits
-bits-or a b k =
-    ap (λ x. eqb (x % 2) 1) (or_shr a b k)
-    ∙ ap (λ x. eqb x 1) (or_mod (a / 2 ^ k) (b / 2 ^ k) 1)
-    ∙ by_bit (λ x y. eqb (bit_or x y) 1 ≡ (eqb x 1 || eqb y 1)) refl refl refl refl (a / 2 ^ k) (b / 2 ^ k)
+bits-or a b k = ap (λ x. eqb x 1) (bit_at_or a b k) ∙ by_bit (λ x y. eqb (max x y) 1 ≡ (eqb x 1 || eqb y 1)) refl refl refl refl (a / 2 ^ k) (b / 2 ^ k)
 
 -- a without what it has in common with b
 pub bits_less : (a b k : ℕ) → bits (bit_xor a (bit_and a b)) k ≡ (bits a k && not (bits b k))
 unfolding bits
 bits_less a b k =
-    ap (λ x. eqb (x % 2) 1) (xor_shr a (bit_and a b) k)
-    ∙ ap (λ x. eqb x 1) (xor_mod (a / 2 ^ k) (bit_and a b / 2 ^ k) 1)
-    ∙ ap (λ x. eqb (bit_xor (a / 2 ^ k % 2) (x % 2)) 1) (and_shr a b k)
-    ∙ ap (λ x. eqb (bit_xor (a / 2 ^ k % 2) x) 1) (and_mod (a / 2 ^ k) (b / 2 ^ k) 1)
-    ∙ by_bit (λ x y. eqb (bit_xor x (bit_and x y)) 1 ≡ (eqb x 1 && not (eqb y 1))) refl refl refl refl (a / 2 ^ k) (b / 2 ^ k)
+    ap (λ x. eqb x 1) (bit_at_xor a (bit_and a b) k)
+    ∙ ap (λ x. eqb ((a / 2 ^ k % 2 + x) % 2) 1) (bit_at_and a b k)
+    ∙ by_bit (λ x y. eqb ((x + min x y) % 2) 1 ≡ (eqb x 1 && not (eqb y 1))) refl refl refl refl (a / 2 ^ k) (b / 2 ^ k)
 
 -- no bit of a word stands past its length
 pub bits_past : (w k n : ℕ) → w < 2 ^ n → n ≤ k → bits w k ≡ false
 unfolding bits
-bits_past w k n h le =
-    let p = pow_mono le in
-    let lt : w < 2 ^ k = omega arith in
-    ap (λ x. eqb (x % 2) 1) (div-eq_of_lt lt)
+bits_past w k n h le = ap (λ x. eqb x 1) (bit_at_above w n k h le)
 
 -- the word of one number
 pub bits-one : (k j : ℕ) → bits (2 ^ k) j ≡ eqb j k
 unfolding bits
-bits-one k j = go (cases_order j k)
+bits-one k j = go (cases_eq j k)
   where
-    above : (d : ℕ) → k ≡ suc d + j → 2 ^ k / 2 ^ j % 2 ≡ 0
-    above d e = ap (λ x. 2 ^ x / 2 ^ j % 2) e ∙ ap (λ x. x / 2 ^ j % 2) (pow-add 2 (suc d) j) ∙ ap (λ x. x % 2) (shl-shr (2 ^ suc d) j) ∙ ap (λ x. x % 2) (pow-suc 2 d) ∙ mul-mod_left (2 ^ d) 2
-
-    go : (j ≡ k) ⊎ ((j < k) ⊎ (k < j)) → eqb (2 ^ k / 2 ^ j % 2) 1 ≡ eqb j k
-    go (inl e) = ap (λ x. eqb (2 ^ x / 2 ^ j % 2) 1) (sym e) ∙ ap (λ x. eqb (x / 2 ^ j % 2) 1) (sym (one-mul (2 ^ j))) ∙ ap (λ x. eqb (x % 2) 1) (shl-shr 1 j) ∙ sym (eq-eqb j k e)
-    go (inr (inl h)) =
-        let d : k ≡ suc (k - suc j) + j = omega arith in
-        ap (λ x. eqb x 1) (above (k - suc j) d) ∙ sym (ne_eqb j k (omega arith))
-    go (inr (inr h)) = ap (λ x. eqb (x % 2) 1) (div-eq_of_lt (pow-lt h)) ∙ sym (ne_eqb j k (omega arith))
+    go : (j ≡ k) ⊎ (j ≡ k → ⊥) → eqb (2 ^ k / 2 ^ j % 2) 1 ≡ eqb j k
+    go (inl e) = ap (λ x. eqb (2 ^ k / 2 ^ x % 2) 1) e ∙ ap (λ x. eqb x 1) (bit_at-pow_same k) ∙ sym (eq-eqb j k e)
+    go (inr ne) = ap (λ x. eqb x 1) (bit_at-pow_other k j ne) ∙ sym (ne_eqb j k ne)
 
 pub bits_zero : (j : ℕ) → bits 0 j ≡ false
 bits_zero j = bits_past 0 j 0 (omega arith) (omega arith)
@@ -153,21 +136,13 @@ those_cong S R (suc n) h = ap₂ (λ x b. x + cond b (2 ^ n) zero) (those_cong S
 bit_value : (m : ℕ) → cond (eqb (m % 2) 1) 1 0 ≡ m % 2
 bit_value m = by_bit (λ x y. cond (eqb x 1) 1 0 ≡ x) refl refl refl refl m m
 
-those-mod : (w n : ℕ) → those (bits w) n ≡ w % 2 ^ n
-unfolding those bits
-those-mod w zero = sym (mod-one w)
-those-mod w (suc n) =
-    ap (λ x. x + cond (bits w n) (2 ^ n) zero) (those-mod w n)
-    ∙ go (bits w n) (bit_value (w / 2 ^ n))
-    ∙ sym (ap (λ x. w % 2 ^ x) (sym (one-add n)) ∙ mod-pow-add w 1 n)
-  where
-    go : (b : Bool) → cond b 1 0 ≡ w / 2 ^ n % 2 → w % 2 ^ n + cond b (2 ^ n) zero ≡ (w / 2 ^ n % 2 ^ 1) * 2 ^ n + w % 2 ^ n
-    go true e = subst (λ x. w % 2 ^ n + 2 ^ n ≡ x * 2 ^ n + w % 2 ^ n) e (omega (arith, one-mul (2 ^ n)))
-    go false e = subst (λ x. w % 2 ^ n + zero ≡ x * 2 ^ n + w % 2 ^ n) e (omega (arith, zero-mul (2 ^ n)))
+one_bit : (v w i : ℕ) → bits v i ≡ bits w i → bit_at v i ≡ bit_at w i
+unfolding bits
+one_bit v w i e = sym (bit_value (v / 2 ^ i)) ∙ ap (λ b. cond b 1 0) e ∙ bit_value (w / 2 ^ i)
 
 -- and a word is the word of its set
 pub those-bits : (w n : ℕ) → w < 2 ^ n → those (bits w) n ≡ w
-those-bits w n h = those-mod w n ∙ mod-eq_of_lt h
+those-bits w n h = same_from_bits_below n (those (bits w) n) w (those_less (bits w) n) h (λ i lt. one_bit (those (bits w) n) w i (ap (λ R. R i) (bits-those (bits w) n) ∙ sym (under_same (bits w) n i lt)))
 
 -- a word that stands for the members of S below 32
 pub is_word : (w : ℕ) (S : Set) → w < 2 ^ 32 → bits w ≡ under S 32 → w ≡ word S

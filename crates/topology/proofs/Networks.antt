@@ -1,6 +1,7 @@
 -- The graph of a plan: what a place says of it, and the labels of its nodes.
-use Rattle.std.proofs.Common.{◌≡◌, ℕ, zero, suc, ◌+◌, ◌<◌, Bool, true, false, cond, ◌&&◌, eqb, ltb, List, [], ◌∷◌, map, length, get_or, take, is_some, Some, None, Option, MatchOption, ◌↔◌, leb, sym, refl, ap, ◌∙◌, subst, add-zero, zero-add, add-one, arith}
+use Rattle.std.proofs.Common.{◌≡◌, ℕ, zero, suc, ◌+◌, ◌<◌, Bool, true, false, cond, ◌&&◌, eqb, ltb, List, [], ◌∷◌, map, get_or, take, is_some, Some, None, Option, MatchOption, ◌↔◌, leb, sym, refl, ap, ◌∙◌, subst, zero-add, add-one, arith}
 use Rattle.std.proofs.lemmas.List.{length-map, get_or-map}
+use Rattle.std.proofs.lemmas.List.FromFn.{get_or-range_with_len}
 use Rattle.std.proofs.lemmas.Bool.{lt-ltb, ltb-true, and_parts, eq-eqb, ne_eqb, cond-true, cond-false, both_ways}
 use Rattle.std.specs.List.{list_any}
 use mathlib.Core.Path.{fun_ext}
@@ -127,16 +128,6 @@ pub head_node : (p : Plan) (k : ℕ) → (graph_of p).head k < 16
 unfolding graph_of
 head_node p k = node_head (branch_at p k)
 
--- a list that counts up
-abbrev Rising : ℕ → List ℕ → Type 0
-Rising i [] = Unit {0}
-Rising i (y ∷ ys) = (y ≡ i) × Rising (suc i) ys
-
-rising_at : (ys : List ℕ) (i x : ℕ) → Rising i ys → x < length ys → get_or ys x 0 ≡ i + x
-rising_at [] i x r h = absurd (omega arith)
-rising_at (y ∷ ys) i zero r h = r.0 ∙ sym (add-zero i)
-rising_at (y ∷ ys) i (suc x) r h = rising_at ys (suc i) x r.1 (omega arith) ∙ omega arith
-
 abbrev numbers : List ℕ
 numbers = 0 ∷ 1 ∷ 2 ∷ 3 ∷ 4 ∷ 5 ∷ 6 ∷ 7 ∷ 8 ∷ 9 ∷ 10 ∷ 11 ∷ 12 ∷ 13 ∷ 14 ∷ 15 ∷ []
 
@@ -145,7 +136,7 @@ pub labelled_none : (g : Graph) (S : Set) → Labelled g S 0 numbers
 unfolding label
 labelled_none g S = record {
   all = refl;
-  each = λ x h. rising_at numbers 0 x (refl, (refl, (refl, (refl, (refl, (refl, (refl, (refl, (refl, (refl, (refl, (refl, (refl, (refl, (refl, (refl, tt)))))))))))))))) h ∙ zero-add x;
+  each = λ x h. get_or-range_with_len 0 16 x 0 h ∙ zero-add x;
 }
 
 module _ (g : Graph) (S : Set) (k : ℕ) (ls : List ℕ) (before : Labelled g S k ls) where
