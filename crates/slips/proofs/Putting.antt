@@ -1,15 +1,13 @@
 -- Bits put in one after another. Assumes nothing.
 use Rattle.std.proofs.Common.{◌≡◌, ℕ, zero, suc, ◌+◌, ◌-◌, ◌*◌, ◌/◌, ◌%◌, ◌^◌, ◌<◌, ◌≤◌, List, [], ◌∷◌, ◌++◌, length, get_or, take, drop, set, replicate, ℤ, pos, sym, refl, ap, ◌∙◌, add-zero, arith}
-use lib.Bits.{bit_and, bit_or, and_mask}
+use lib.Bits.{bit_and, bit_or}
 use Rattle.std.proofs.Math.Nat.{pow-succ', div-div-eq-div-mul}
 use Rattle.std.proofs.lemmas.List.{append_assoc, append-nil, length-set, length-take-le, at_drop_more, get_or_append_left, set-append_left, take-append-drop}
+use Rattle.std.proofs.lemmas.Nat.Bits.{shr_and_one}
 use Rattle.std.specs.Int.{w32, reverse_bits, reverse_bits_onto}
 use Rattle.slips.specs.Bits.{put_bit, put_bits, high, low, zeroed}
 use Rattle.slips.specs.Entries.{code_of, entries_bits}
 use Rattle.slips.specs.Slips.{row_bits}
-
-pub last_bit : (n : ℕ) → bit_and n 1 ≡ n % 2
-last_bit n = and_mask n 1
 
 pub word_turn : (area : List ℕ) (at count i w : ℕ) → i < count
     → put_bits (put_bit area (at + i) (bit_and (w / 2 ^ (count - 1 - i)) 1)) (at + (i + 1)) (high (count - (i + 1)) w) ≡ put_bits area (at + i) (high (count - i) w)
@@ -18,7 +16,7 @@ word_turn area at count i w h =
     let e : count - i ≡ suc (count - (i + 1)) = omega arith in
     let k : count - 1 - i ≡ count - (i + 1) = omega arith in
     let p : at + (i + 1) ≡ at + i + 1 = omega arith in
-    rw (last_bit (w / 2 ^ (count - 1 - i)), k, p, e)
+    rw (shr_and_one w (count - 1 - i), k, p, e)
 
 -- the bits of a number turned around
 high_more : (n a b : ℕ) → b < 2 → high (suc n) (a * 2 + b) ≡ high n a ++ b ∷ []
