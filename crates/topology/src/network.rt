@@ -49,7 +49,7 @@ pub fn is_placed(plan: &Plan, k: u32) -> bool
     k < 32 && plan.at(k).is_some()
 }
 
-// The bound on k is a premise, as in `insert_if`: a type for it is no plainer.
+// A type for a place below 32 is no plainer: one loop alone asks this.
 pub(crate) fn is_of_kind(plan: &Plan, kind: Kind, k: u32) -> bool
     requires { k < 32 }
     ensures { result ≡ of_class (class_at plan.now) (kind_class kind) (placed plan.now) k }

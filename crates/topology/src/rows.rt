@@ -25,8 +25,8 @@ pub(crate) fn difference(first: bool, second: bool) -> Sign
     }
 }
 
-// The row with the sign that is given for each place. The bound on k is a premise, as in `insert_if`: a type for it is no
-// plainer.
+// The row with the sign that is given for each place. A type for a place below 32 is no plainer: what gives the sign takes
+// any number.
 fn row_of<F: Fn(u32) -> Sign>(sign: F) -> Shown
     requires { F.IsAlwaysCallable sign }
     ensures { (f : ℕ → graphs.Sign) → ((k : ℕ) (x : Sign) → k < 32 → F.post sign k x → sign_of x ≡ f k) → result ≡ shown f }

@@ -1,6 +1,6 @@
 // Sets of branches as words: bit k stands for the number k. What a caller with many rows needs is public.
-// A caller is handed words, one for a tree and two for a row, so a set has no type of its own. A type for
-// a number below 32 is no plainer: public calls answer for any number, and each loop would make one for one call.
+// A caller is handed words, one for a tree and two for a row, so a set has no type of its own. A type for a
+// number below 32 is no plainer: public calls answer for any number, and each loop would make one for one call.
 ghost use Rattle.std.specs.Prelude.{◌≡◌, ℕ, ◌<◌, Bool, ◌||◌, if◌then◌else◌};
 ghost use Rattle.graphs.specs.Graph.{Set, with, without, both};
 ghost use Rattle.topology.specs.Words.{bits, except, under, first};
