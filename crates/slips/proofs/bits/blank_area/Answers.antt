@@ -16,7 +16,5 @@ returns-then-area-ge280 c =
     in
     record { area = is; past = blanked_past area is }
 
-pub returns-else-area-ge280 : goal.returns-else-area-ge280
-returns-else-area-ge280 c =
-    let is = sym (blanked_short c.args.area.now c.if-area-ge280.false) in
-    record { area = is; past = blanked_past c.args.area.now is }
+pub returns-else-area-ge280-clause-area : goal.returns-else-area-ge280-clause-area
+returns-else-area-ge280-clause-area c = sym (blanked_short c.args.area.now c.if-area-ge280.false)

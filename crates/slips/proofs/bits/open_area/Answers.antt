@@ -19,8 +19,7 @@ returns-in-Some c =
     in
     record { area = is; past = opened_past c.args.tree area is }
 
-pub returns-in_default : goal.returns-in_default
-returns-in_default c =
+pub returns-in_default-clause-area : goal.returns-in_default-clause-area
+returns-in_default-clause-area c =
     let area = c.args.area.now in
-    let is = c.blank_area.ensures.area ∙ blanked_short area (search rules) ∙ sym (opened_short c.args.tree area (search rules)) in
-    record { area = is; past = opened_past c.args.tree area is }
+    c.blank_area.ensures.area ∙ blanked_short area (search rules) ∙ sym (opened_short c.args.tree area (search rules))
