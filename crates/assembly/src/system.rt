@@ -1,6 +1,6 @@
 // The matrix and the right side of a step's system. The unknowns are the voltages of the tree branches that are no
 // voltage source, lower numbers first. A `Setting` only reads the area, which is written here: a type for frame, area
-// and rows would owe in each contract that frame and rows stay. As there, any parts that they have will do.
+// and rows would owe in each contract that frame and rows stay. The parts are any, as in `Setting`.
 ghost use Rattle.std.specs.List.{range_with_len};
 ghost use Rattle.std.specs.Prelude.{◌≡◌, count_by, map, if◌then◌else◌, slice_set};
 ghost use Rattle.assembly.specs.Frames.{Frames, Holds, Levels, Sets, levels_of, entered, system_of};

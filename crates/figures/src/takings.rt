@@ -9,7 +9,8 @@ use sheet::Refusal;
 // A trace holds at most so many.
 const MOST: u32 = 1_000_000;
 
-// f64::min and f64::max may answer either zero for two of them; here the old one stays on a tie.
+// f64::min and f64::max may answer either zero for two of them; here the old one stays on a tie. One function for lesser
+// and greater would be handed the comparison, which is all that either holds.
 fn lesser_of(voltage: f64, old: f64) -> f64
     ensures { result ≡ lesser voltage old }
 {
