@@ -1,7 +1,8 @@
 -- Rows renewed place by place, and results asked one by one. Assumes nothing.
-use Rattle.std.proofs.Common.{◌≡◌, ℕ, zero, suc, ◌+◌, ◌<◌, Bool, true, false, cond, not, ◌&&◌, ◌||◌, List, map, length, get_or, set, sym, refl, ap, ◌∙◌, ap₂, arith, get_or-set_other}
+use Rattle.std.proofs.Common.{◌≡◌, ℕ, zero, suc, ◌+◌, ◌<◌, Bool, true, false, not, ◌&&◌, ◌||◌, List, map, length, get_or, set, sym, refl, ap, ◌∙◌, ap₂, arith, get_or-set_other}
 use Rattle.std.proofs.lemmas.List.{map-set, get_or-map, set-get_or}
-use Rattle.std.proofs.lemmas.Bool.{both_ways}
+use Rattle.std.proofs.Math.Bool.{or-false}
+use Rattle.std.proofs.lemmas.Bool.{both_ways, cond-true, cond-false}
 use Rattle.std.specs.List.{list_any, range_with_len}
 use Rattle.arithmetic.specs.Ops.{Ops}
 use Rattle.sheet.specs.declared.plan.Plan.{Plan}
@@ -25,11 +26,7 @@ or_last false true c = refl
 or_last false false c = refl
 
 asked-from : (S : Set) (k n : ℕ) → (any S k || list_any S (range_with_len k n)) ≡ any S (k + n)
-asked-from S k zero = or_false (any S k) ∙ ap (any S) (let e : k ≡ k + 0 = omega arith in e)
-  where
-    or_false : (b : Bool) → (b || false) ≡ b
-    or_false true = refl
-    or_false false = refl
+asked-from S k zero = or-false (any S k) ∙ ap (any S) (let e : k ≡ k + 0 = omega arith in e)
 asked-from S k (suc n) =
     or_last (any S k) (S k) (list_any S (range_with_len (k + 1) n))
     ∙ ap (λ (b : Bool). b || list_any S (range_with_len (k + 1) n)) (sym (any_more S k))
@@ -62,10 +59,10 @@ module _ {V M : Type 0} (o : Ops M) (mean : V → M) (p : Plan) (currents voltag
       ap (map (meant_row mean)) d ∙ map-set (meant_row mean) rows k (renewed (get_or rows k z) i u)
       ∙ ap₂ (λ x y. set (map (meant_row mean) rows) k (renewed (meant_row mean (get_or rows k z)) x y)) a b
       ∙ ap (λ q. set (map (meant_row mean) rows) k (renewed q (get_or currents k o.nought) (get_or voltages k o.nought))) (sym (get_or-map (meant_row mean) rows k z _ l))
-      ∙ sym (ap (λ b. cond b (set (map (meant_row mean) rows) k (renewed (row_at o (map (meant_row mean) rows) k) (get_or currents k o.nought) (get_or voltages k o.nought))) (map (meant_row mean) rows)) m)
+      ∙ sym (cond-true _ _ _ m)
 
   pub row_left : (rows : List (Row M)) (k : ℕ) → placed p k ≡ false → rows ≡ renewed_at o p currents voltages k rows
-  row_left rows k m = sym (ap (λ b. cond b (set rows k (renewed (row_at o rows k) (get_or currents k o.nought) (get_or voltages k o.nought))) rows) m)
+  row_left rows k m = sym (cond-false _ _ _ m)
 
   pub not-placed : (k : ℕ) → placed p k ≡ false → false ≡ unsound_at o p currents voltages k
   not-placed k m = sym (ap (λ b. b && not (o.is_sound (get_or currents k o.nought) && o.is_sound (get_or voltages k o.nought))) m)

@@ -1,5 +1,6 @@
 -- A step whose tree is known: 14, 15 or the new rows. Assumes nothing.
 use Rattle.std.proofs.Common.{◌≡◌, ℕ, zero, suc, ◌<◌, ◌≤◌, Bool, true, false, cond, not, ◌&&◌, ◌||◌, List, [], map, get_or, set, is_some, Some, None, Option, sym, refl, ap, ◌∙◌, ap₂, arith, get_or-set_other}
+use Rattle.std.proofs.lemmas.Bool.{cond-false}
 use Rattle.arithmetic.specs.Ops.{Ops}
 use Rattle.sheet.specs.declared.kind.Kind.{Kind}
 use Rattle.sheet.specs.declared.kind.Kind.TheVariants.{Resistor, Inductor, Capacitor, VoltageSource, CurrentSource}
@@ -75,8 +76,7 @@ module _ {M : Type 0} (o : Ops M) (h : M) (s : Sheet M) (currents voltages : Lis
           ap (λ r. cond (placed s.plan n) (set (through turn n s.rows) n (renewed r (get_or currents n o.nought) (get_or voltages n o.nought))) (through turn n s.rows)) (untouched n)
           ∙ ap₂ (λ x y. cond (placed s.plan n) (set (through turn n s.rows) n (renewed (row_at o s.rows n) x y)) (through turn n s.rows)) (current_is n l m) (voltage_is n l)
       go false m =
-          ap (λ b. cond b (set (through turn n s.rows) n (renewed (row_at o (through turn n s.rows) n) (get_or currents n o.nought) (get_or voltages n o.nought))) (through turn n s.rows)) m
-          ∙ sym (ap (λ b. cond b (write n (through turn n s.rows)) (through turn n s.rows)) m)
+          cond-false _ _ _ m ∙ sym (cond-false _ _ _ m)
 
   so_far : (n : ℕ) → n ≤ 32 → through (renewed_at o s.plan currents voltages) n s.rows ≡ through turn n s.rows
   unfolding through

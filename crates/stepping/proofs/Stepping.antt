@@ -1,7 +1,7 @@
 -- A step of the program, from each of its ways out, and what it is in a story. Assumes nothing.
-use Rattle.std.proofs.Common.{◌≡◌, ℕ, Bool, true, false, cond, not, ◌&&◌, ◌||◌, T, eqb, ltb, List, [], length, sym, refl, ap, ◌∙◌, subst, ap₂, inl, inr}
+use Rattle.std.proofs.Common.{◌≡◌, ℕ, Bool, true, false, not, ◌&&◌, ◌||◌, T, eqb, ltb, List, [], length, sym, refl, ap, ◌∙◌, subst, ap₂, inl, inr}
 use Rattle.std.proofs.lemmas.List.{length-map}
-use Rattle.std.proofs.lemmas.Bool.{not-false}
+use Rattle.std.proofs.lemmas.Bool.{not-false, not-true, cond-true, cond-false}
 use Rattle.arithmetic.specs.Ops.{Ops, Exact, may_divide}
 use Rattle.sheet.specs.declared.plan.Plan.{Plan}
 use Rattle.sheet.specs.declared.row.Row.{Row}
@@ -74,7 +74,7 @@ module _ {V M : Type 0} (o : Ops M) (mean : V → M) (nil : V) (plan : Plan) (ro
     gives = refl;
     others = λ k d f. refl;
     alone = λ u d. refl;
-    places = sym (ap (λ b. cond b (cleared nil work) work) s);
+    places = sym (cond-false _ _ _ s);
   }
 
   pub no_areas : not (not (eqb (length rows) 32) || ltb (length work) 304) ≡ false → StepDoes o mean nil plan rows h work (fail (record { number = 1; words = [] })) rows work
@@ -83,10 +83,6 @@ module _ {V M : Type 0} (o : Ops M) (mean : V → M) (nil : V) (plan : Plan) (ro
   module _ (fit : not (not (eqb (length rows) 32) || ltb (length work) 304) ≡ true) where
     areas : (not (eqb (length rows) 32) || ltb (length work) 304) ≡ false
     areas = not-true _ fit
-      where
-        not-true : (b : Bool) → not b ≡ true → b ≡ false
-        not-true true e = sym e
-        not-true false e = refl
 
     pub no_length : (o.is_sound (mean h) && may_divide o (mean h)) ≡ false → StepDoes o mean nil plan rows h work (fail (record { number = 11; words = [] })) rows work
     no_length e = does_refused _ (λ i. refuse 1 (sym areas i) (refuse 11 (not (sym e i)) (after (tree_of plan) (λ tree. settled o (mean h) sheet)))) refl
@@ -108,7 +104,7 @@ module _ {V M : Type 0} (o : Ops M) (mean : V → M) (nil : V) (plan : Plan) (ro
             gives = s.gives;
             others = s.others;
             alone = s.alone;
-            places = d ∙ sym (ap (λ b. cond b (cleared nil work) work) (ap spends s.answers ∙ settled-spends o (mean h) sheet));
+            places = d ∙ sym (cond-true _ _ _ (ap spends s.answers ∙ settled-spends o (mean h) sheet));
           }
 
   -- what that is in a story

@@ -1,18 +1,17 @@
 // One time step.
 ghost use Rattle.std.specs.Prelude.{◌≡◌, not, ◌&&◌, ◌||◌, T, List, map, length, replicate, ◌==◌, nat_lt};
 ghost use Rattle.arithmetic.specs.Ops.{may_divide};
-ghost use Rattle.assembly.specs.Frames.{FrameOf};
 ghost use Rattle.sheet.specs.Meanings.{meant_row, meant_sheet};
-ghost use Rattle.sheet.specs.Refusals.{granted, verdict};
+ghost use Rattle.sheet.specs.Refusals.{verdict};
 ghost use Rattle.stepping.specs.Calls.{StepDoes, Continues};
 ghost use Rattle.stepping.specs.Steps.{Worked, Settles};
 ghost use Rattle.stories.specs.Stories.{StoryCall, run};
 ghost use Rattle.stories.specs.Theorem.{TheoremOfStories, TreesOfStories};
-ghost use Rattle.topology.specs.Trees.{tree_of};
 
 use crate::area::clear;
 use crate::companion::store_companions;
 use crate::figures::Figures;
+use crate::framed::Framed;
 use arithmetic::{Arithmetic, may_divide};
 use assembly::{Frame, Setting, assemble};
 use sheet::{Plan, Refusal, Row};
@@ -24,21 +23,18 @@ use topology::tree;
 
 // Companions, system and solution in the area; the number of unknowns, or none where a column has no pivot.
 fn solve_system<N: Arithmetic>(
-    plan: &Plan,
+    framed: &Framed,
     rows: &[Row<N>],
-    frame: &Frame,
     h: N,
     area: &mut [N],
 ) -> Option<u32>
     requires area { length area.old ≡ 304 }
     requires rows { length rows.now ≡ 32 }
-    requires tree { tree_of plan.now ≡ granted frame.now.tree }
-    requires frame { FrameOf plan.now frame.now.tree frame.now }
-    ensures { Worked N.ops (N.mean h) (record { plan = plan.now; rows = map (meant_row N.mean) rows.now }) result (map N.mean area.new) }
+    ensures { Worked N.ops (N.mean h) (record { plan = framed.now.plan.now; rows = map (meant_row N.mean) rows.now }) result (map N.mean area.new) }
 {
     clear(area);
-    store_companions(plan, rows, h, area);
-    let unknowns = assemble(frame, area, rows);
+    store_companions(framed.plan, rows, h, area);
+    let unknowns = assemble(&framed.frame, area, rows);
     solve(area, unknowns as usize).ok()?;
     Some(unknowns)
 }
@@ -59,21 +55,18 @@ fn is_step_length<N: Arithmetic>(h: N) -> bool
 
 // The step once its tree is known: 14, 15, or the new figures in the rows.
 fn advance<N: Arithmetic>(
-    plan: &Plan,
+    framed: &Framed,
     rows: &mut [Row<N>],
-    tree: u32,
     h: N,
     area: &mut [N],
 ) -> Result<(), Refusal>
     requires area { length area.old ≡ 304 }
     requires rows { length rows.old ≡ 32 }
-    requires tree { tree_of plan.now ≡ granted tree }
-    ensures { Settles N.ops N.mean (N.mean h) plan.now rows.old (verdict result) rows.new }
+    ensures { Settles N.ops N.mean (N.mean h) framed.now.plan.now rows.old (verdict result) rows.new }
 {
-    let frame = Frame::of(plan, tree);
-    let unknowns = solve_system(plan, rows, &frame, h, area).ok_or(Refusal::NoPivot)?;
+    let unknowns = solve_system(framed, rows, h, area).ok_or(Refusal::NoPivot)?;
     let setting = Setting {
-        frame: &frame,
+        frame: &framed.frame,
         area,
         rows,
     };
@@ -83,28 +76,26 @@ fn advance<N: Arithmetic>(
         currents: &currents,
         voltages: &voltages,
     };
-    if figures.are_unsound(plan) {
+    if figures.are_unsound(framed.plan) {
         return Err(Refusal::UnsoundResult);
     }
-    figures.renew_rows(plan, rows);
+    figures.renew_rows(framed.plan, rows);
     Ok(())
 }
 
 // The same, and the area ends as zeros each time.
 fn settle<N: Arithmetic>(
-    plan: &Plan,
+    framed: &Framed,
     rows: &mut [Row<N>],
-    tree: u32,
     h: N,
     area: &mut [N],
 ) -> Result<(), Refusal>
     requires area { length area.old ≡ 304 }
     requires rows { length rows.old ≡ 32 }
-    requires tree { tree_of plan.now ≡ granted tree }
-    ensures does { Settles N.ops N.mean (N.mean h) plan.now rows.old (verdict result) rows.new }
+    ensures does { Settles N.ops N.mean (N.mean h) framed.now.plan.now rows.old (verdict result) rows.new }
     ensures area { area.new ≡ replicate 304 N.nil }
 {
-    let answer = advance(plan, rows, tree, h, area);
+    let answer = advance(framed, rows, h, area);
     clear(area);
     answer
 }
@@ -130,5 +121,9 @@ pub fn step<N: Arithmetic>(
         return Err(Refusal::BadStepLength);
     }
     let tree = tree(plan)?;
-    settle(plan, rows, tree, h, &mut work[0..304])
+    let framed = Framed {
+        plan,
+        frame: Frame::of(plan, tree),
+    };
+    settle(&framed, rows, h, &mut work[0..304])
 }

@@ -25,7 +25,8 @@ fn renew<N: Copy>(rows: &mut [Row<N>], k: usize, current: N, voltage: N)
     };
 }
 
-// The currents and voltages of all branches, by place.
+// The currents and voltages of all branches, by place. The currents are found from all the voltages, so a list of pairs
+// would be made of these two lists.
 #[derive(Clone, Copy)]
 pub(crate) struct Figures<'a, N> {
     pub currents: &'a [N],

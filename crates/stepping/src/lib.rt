@@ -6,6 +6,7 @@ mod area;
 mod calls;
 mod companion;
 mod figures;
+mod framed;
 mod telling;
 
 pub use calls::step;
