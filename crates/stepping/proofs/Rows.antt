@@ -1,8 +1,8 @@
 -- Rows renewed place by place, and results asked one by one. Assumes nothing.
-use Rattle.std.proofs.Common.{◌≡◌, ℕ, zero, suc, ◌+◌, ◌<◌, Bool, true, false, not, ◌&&◌, ◌||◌, List, map, length, get_or, set, sym, refl, ap, ◌∙◌, ap₂, arith, get_or-set_other}
+use Rattle.std.proofs.Common.{◌≡◌, ℕ, zero, suc, ◌+◌, ◌<◌, Bool, true, false, ◌||◌, List, map, length, get_or, set, sym, refl, ap, ◌∙◌, ap₂, arith, get_or-set_other}
 use Rattle.std.proofs.lemmas.List.{map-set, get_or-map, set-get_or}
 use Rattle.std.proofs.Math.Bool.{or-false}
-use Rattle.std.proofs.lemmas.Bool.{both_ways, cond-true, cond-false}
+use Rattle.std.proofs.lemmas.Bool.{both_ways, cond-true}
 use Rattle.std.specs.List.{list_any, range_with_len}
 use Rattle.arithmetic.specs.Ops.{Ops}
 use Rattle.sheet.specs.declared.plan.Plan.{Plan}
@@ -12,7 +12,7 @@ use Rattle.graphs.specs.Graph.{Set}
 use Rattle.topology.specs.Networks.{placed}
 use Rattle.stories.specs.Networks.{any}
 use Rattle.stories.specs.Steps.{row_at, renewed}
-use Rattle.stepping.specs.Steps.{unsound_at, renewed_at, given, Others}
+use Rattle.stepping.specs.Steps.{renewed_at, given, Others}
 
 -- asked of the numbers below n, from the lowest up or from the highest down
 any_more : (S : Set) (k : ℕ) → any S (k + 1) ≡ (S k || any S k)
@@ -60,14 +60,3 @@ module _ {V M : Type 0} (o : Ops M) (mean : V → M) (p : Plan) (currents voltag
       ∙ ap₂ (λ x y. set (map (meant_row mean) rows) k (renewed (meant_row mean (get_or rows k z)) x y)) a b
       ∙ ap (λ q. set (map (meant_row mean) rows) k (renewed q (get_or currents k o.nought) (get_or voltages k o.nought))) (sym (get_or-map (meant_row mean) rows k z _ l))
       ∙ sym (cond-true _ _ _ m)
-
-  pub row_left : (rows : List (Row M)) (k : ℕ) → placed p k ≡ false → rows ≡ renewed_at o p currents voltages k rows
-  row_left rows k m = sym (cond-false _ _ _ m)
-
-  pub not-placed : (k : ℕ) → placed p k ≡ false → false ≡ unsound_at o p currents voltages k
-  not-placed k m = sym (ap (λ b. b && not (o.is_sound (get_or currents k o.nought) && o.is_sound (get_or voltages k o.nought))) m)
-
-  pub is_placed : (k : ℕ) (x y : M) (a b : Bool) → placed p k ≡ true → a ≡ o.is_sound x → b ≡ o.is_sound y → x ≡ get_or currents k o.nought → y ≡ get_or voltages k o.nought → not (a && b) ≡ unsound_at o p currents voltages k
-  is_placed k x y a b m i j e d =
-      ap₂ (λ (a b : Bool). not (a && b)) (i ∙ ap o.is_sound e) (j ∙ ap o.is_sound d)
-      ∙ sym (ap (λ b. b && not (o.is_sound (get_or currents k o.nought) && o.is_sound (get_or voltages k o.nought))) m)

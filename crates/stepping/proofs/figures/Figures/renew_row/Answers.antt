@@ -1,16 +1,7 @@
-use Rattle.std.proofs.Common.{map, sym, refl, ◌∙◌, arith}
+use Rattle.std.proofs.Common.{map, sym, ◌∙◌, arith}
 use Rattle.sheet.specs.Calls.{valued, zero_row}
-use Rattle.stepping.proofs.Rows.{gives_same, others_same, row-renewed, row_left}
+use Rattle.stepping.proofs.Rows.{gives_same, others_same, row-renewed}
 use Rattle.stepping.proofs.figures.Figures.renew_row.Goals as goal
-
-pub returns-then-not-is_placed : goal.returns-then-not-is_placed
-returns-then-not-is_placed g c =
-    let m = g.N.Arithmetic.mean in
-    record {
-      rows = row_left g.N.Arithmetic.ops m c.args.plan.now (map m c.args.self.now.currents.now) (map m c.args.self.now.voltages.now) _ c.args.k (sym c.is_placed.ensures ∙ c.if-not-is_placed.true);
-      gives = refl;
-      others = λ j d f. refl;
-    }
 
 pub returns : goal.returns
 returns g c =

@@ -1,5 +1,5 @@
-use Rattle.std.proofs.Common.{◌≡◌, refl, ◌∙◌, arith}
-use Rattle.assembly.proofs.Turns.{none_made, one_more, all_made}
+use Rattle.std.proofs.Common.{refl, ◌∙◌}
+use Rattle.assembly.proofs.Turns.{none_made, one_more}
 use Rattle.stepping.proofs.figures.Figures.renew_rows.Goals as goal
 
 pub loop-k-init : goal.loop-k-init
@@ -11,8 +11,3 @@ loop-k-preserved g c = (
   c.renew_row.ensures.gives ∙ c.loop-k.invariant.1,
   λ j d f. c.renew_row.ensures.others j d f ∙ c.loop-k.invariant.2 j d f,
 )
-
-pub returns : goal.returns
-returns g c =
-    let end : c.loop-k.k ≡ 32 = omega arith in
-    record { rows = all_made _ _ _ _ _ end c.loop-k.invariant.0; gives = c.loop-k.invariant.1; others = c.loop-k.invariant.2 }
