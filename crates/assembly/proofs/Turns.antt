@@ -12,3 +12,6 @@ one_more f k w now next e n = n ∙ ap (f k) e ∙ ap (λ (j : ℕ). through f j
 
 pub all_made : {W : Type 0} (f : ℕ → W → W) (k n : ℕ) (w now : W) → k ≡ n → now ≡ through f k w → now ≡ through f n w
 all_made f k n w now e i = i ∙ ap (λ (j : ℕ). through f j w) e
+
+-- what the goals of such loops ask
+pub ruleset turns = (none_made, one_more, all_made)

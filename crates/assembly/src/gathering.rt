@@ -24,6 +24,7 @@ fn take_if<N: Arithmetic>(counts: bool, sign: Sign, term: N, sum: N) -> N
 }
 
 // The terms of the members of a word, each taken by its sign, to a start.
+#[tactic(auto, using(crate::proofs::Turns::turns), unfolding(crate::specs::Frames::gathered))]
 pub(crate) fn gather<N: Arithmetic, S: Fn(u32) -> Sign, T: Fn(u32) -> N>(
     members: u32,
     sign: S,

@@ -74,6 +74,7 @@ impl<'a, N: Arithmetic> Setting<'a, N> {
     }
 
     // The right side of an unknown: its feeds, then each voltage source in turn.
+    #[tactic(auto, using(crate::proofs::Turns::turns), unfolding(stories::specs::Assembly::right_of))]
     pub(crate) fn right_of(&self, t: u32) -> N
         ensures { (c : Parts N.Meaning) → Sets N.ops N.mean c self.now.frame.now self.now.area.now self.now.rows.now → t ∈ c.tree → N.mean result ≡ right_of N.ops c t }
     {

@@ -36,6 +36,7 @@ fn write_entry<N: Arithmetic>(frame: &Frame, area: &mut [N], rows: &[Row<N>], t:
 }
 
 // All entries of the unknown t.
+#[tactic(auto, using(crate::proofs::Turns::turns), unfolding(crate::specs::Frames::entered))]
 fn write_entries<N: Arithmetic>(frame: &Frame, area: &mut [N], rows: &[Row<N>], t: u32)
     ensures { (c : Parts N.Meaning) → Sets N.ops N.mean c frame.now area.old rows.now → t ∈ c.tree → map N.mean area.new ≡ entered N.ops c t (map N.mean area.old) }
 {
@@ -58,6 +59,7 @@ fn write_row<N: Arithmetic>(frame: &Frame, area: &mut [N], rows: &[Row<N>], t: u
 }
 
 // The whole system, lower unknowns first; answers how many unknowns there are.
+#[tactic(auto, using(crate::proofs::Turns::turns))]
 pub fn assemble<N: Arithmetic>(frame: &Frame, area: &mut [N], rows: &[Row<N>]) -> u32
     ensures unknowns { result ≡ count (bits frame.now.unknown) 32 }
     ensures system { (c : Parts N.Meaning) → Frames c frame.now → Holds N.ops c (map N.mean area.old) → Levels c (levels_of N.ops N.mean rows.now) → map N.mean area.new ≡ system_of N.ops c (map N.mean area.old) }

@@ -76,6 +76,7 @@ fn store<N: Arithmetic>(kind: Kind, row: Row<N>, h: N, area: &mut [N], k: usize)
 }
 
 // The companions of all branches.
+#[tactic(auto, using(assembly::proofs::Turns::turns))]
 pub(crate) fn store_companions<N: Arithmetic>(plan: &Plan, rows: &[Row<N>], h: N, area: &mut [N])
     requires { length rows.now ≡ 32 }
     ensures { map N.mean area.new ≡ through (companion_turn N.ops plan.now (N.mean h) (row_at N.ops (map (meant_row N.mean) rows.now))) 32 (map N.mean area.old) }

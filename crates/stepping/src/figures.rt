@@ -70,6 +70,7 @@ impl<'a, N: Arithmetic> Figures<'a, N> {
     }
 
     // The rows of all placed branches with their new figures.
+    #[tactic(auto, using(assembly::proofs::Turns::turns))]
     pub(crate) fn renew_rows(&self, plan: &Plan, rows: &mut [Row<N>])
         requires { length rows.old ≡ 32 }
         ensures rows { map (meant_row N.mean) rows.new ≡ through (renewed_at N.ops plan.now (map N.mean self.now.currents.now) (map N.mean self.now.voltages.now)) 32 (map (meant_row N.mean) rows.old) }

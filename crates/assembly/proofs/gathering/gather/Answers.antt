@@ -1,11 +1,7 @@
-use Rattle.std.proofs.Common.{◌≡◌, ap, ◌∙◌, arith}
-use Rattle.assembly.specs.Frames.{gathered}
-use Rattle.assembly.proofs.Turns.{none_made, one_more, all_made}
+use Rattle.std.proofs.Common.{ap, ◌∙◌, arith}
+use Rattle.assembly.proofs.Turns.{one_more}
 use Rattle.assembly.proofs.Reading.{turn_same}
 use Rattle.assembly.proofs.gathering.gather.Goals as goal
-
-pub loop-k-init : goal.loop-k-init
-loop-k-init g c members s x e signs terms = none_made _ _
 
 pub loop-k-preserved : goal.loop-k-preserved
 loop-k-preserved g c members s x e signs terms =
@@ -13,7 +9,3 @@ loop-k-preserved g c members s x e signs terms =
     one_more _ _ _ _ _ (c.loop-k.invariant members s x e signs terms)
     (c.take_if-sum.ensures
     ∙ turn_same g.N.Arithmetic.ops _ (members k) _ _ _ _ _ (c.has.ensures ∙ ap (λ R. R k) e) (λ i. signs k _ (omega arith) i c.sign.ensures) (λ i. terms k _ (omega arith) i c.term.ensures))
-
-pub returns : goal.returns
-unfolding gathered
-returns g c members s x e signs terms = let end : c.loop-k.k ≡ 32 = omega arith in all_made _ _ _ _ _ end (c.loop-k.invariant members s x e signs terms)

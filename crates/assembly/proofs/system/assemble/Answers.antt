@@ -1,12 +1,9 @@
 use Rattle.std.proofs.Common.{◌≡◌, ◌∙◌, arith}
 use Rattle.topology.specs.Words.{bits}
 use Rattle.assembly.specs.Frames.{system_of}
-use Rattle.assembly.proofs.Turns.{none_made, one_more, all_made}
+use Rattle.assembly.proofs.Turns.{one_more, all_made}
 use Rattle.assembly.proofs.Reading.{counted, rows_kept}
 use Rattle.assembly.proofs.system.assemble.Goals as goal
-
-pub loop-t-init : goal.loop-t-init
-loop-t-init g c parts sets = none_made _ _
 
 pub loop-t-preserved : goal.loop-t-preserved
 loop-t-preserved g c parts sets =
