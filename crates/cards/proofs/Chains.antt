@@ -1,16 +1,12 @@
 -- A card from what each of its checks found. Assumes nothing.
-use Rattle.std.proofs.Common.{◌≡◌, ℕ, ◌+◌, ◌-◌, ◌<◌, Bool, true, false, not, eqb, List, [], ◌∷◌, length, get_or, take, drop, Some, None, Option, Ok, Err, Result, MatchResult, sym, refl, subst, ap, ◌∙◌, add-one, arith}
+use Rattle.std.proofs.Common.{◌≡◌, ℕ, ◌+◌, ◌-◌, ◌<◌, Bool, true, false, not, eqb, List, [], ◌∷◌, length, get_or, take, drop, Some, None, Option, Ok, Err, Result, MatchResult, sym, refl, ap, ◌∙◌, add-one, arith}
 use Rattle.std.specs.Option.{ok_or}
 use Rattle.std.proofs.lemmas.List.{take_rest}
 use Rattle.std.proofs.lemmas.Bool.{ne_eqb, cond-false}
 use Rattle.arithmetic.specs.Ops.{Ops}
 use Rattle.sheet.specs.declared.kind.Kind.{Kind}
-use Rattle.sheet.specs.declared.placement.Placement.{Placement}
 use Rattle.sheet.specs.Kinds.{mark, kind_lettered}
-use Rattle.sheet.specs.Refusals.{Told, means}
-use Rattle.sheet.specs.declared.refusal.Refusal.{Refusal}
-use Rattle.sheet.specs.declared.refusal.Refusal.TheVariants.{NoSuchLetter}
-use Rattle.cards.specs.declared.fault.Wrong.{Wrong}
+use Rattle.sheet.specs.Refusals.{Told}
 use Rattle.cards.specs.Cards.{Checked, right, wrong, then, barred, byte_of, is_empty, counted, value_of, start_of, over_of, card_of, lettered, opened}
 use Rattle.cards.specs.Fields.{Word, Cutting}
 
@@ -35,21 +31,6 @@ or_else_barred n byte false x rest = refl
 
 pub barred_stops : {X Y : Type 0} (n byte : ℕ) (t : Bool) (x : X) (rest : Checked Y) (told : Told) (b : ℕ) → wrong told b ≡ barred n byte t (right x) → wrong told b ≡ barred n byte t rest
 barred_stops n byte t x rest told b e = ap (λ c. or_else c rest) e ∙ or_else_barred n byte t x rest
-
-module _ {M : Type 0} (o : Ops M) (c : Cutting) where
-  -- a letter that no kind has
-  pub no_kind : (text : List ℕ) (r : Result Kind Refusal) (w : Wrong) (P : Refusal → Type 0) → 0 < length text → (get_or text 0 0 ≡ 42 → ⊥)
-      → r ≡ ok_or (kind_lettered (get_or text 0 0)) NoSuchLetter → MatchResult r (λ x. ◌≡◌ {A = Result Kind Wrong} (Err w) (Ok x)) P
-      → ((e : Refusal) → P e → (w.refusal ≡ e) × (w.byte ≡ byte_of c.first)) → ◌≡◌ {A = Checked (Option (Placement M))} (wrong (means w.refusal) w.byte) (opened o text c)
-  no_kind [] r w P some star is cases says = absurd (omega arith)
-  no_kind (b ∷ bs) r w P some star is cases says = go (kind_lettered b) refl (subst (λ x. MatchResult x (λ y. ◌≡◌ {A = Result Kind Wrong} (Err w) (Ok y)) P) is cases)
-    where
-      go : (x : Option Kind) → kind_lettered b ≡ x → MatchResult (ok_or x NoSuchLetter) (λ y. ◌≡◌ {A = Result Kind Wrong} (Err w) (Ok y)) P
-          → ◌≡◌ {A = Checked (Option (Placement M))} (wrong (means w.refusal) w.byte) (opened o (b ∷ bs) c)
-      go None letter h =
-          let told = says NoSuchLetter h in
-          (λ i. wrong (means (told.0 i)) (told.1 i)) ∙ ap (λ x. lettered o x (byte_of c.first) bs c) (sym letter) ∙ sym (cond-false (eqb b 42) _ _ (ne_eqb b 42 star))
-      go (Some j) letter h = let z : ◌≡◌ {A = ℕ} 0 1 = cc in absurd (omega arith)
 
 module _ {M : Type 0} (o : Ops M) (k : Kind) (c : Cutting) where
   pub to_over : (number : Word) (n t h : ℕ) (v s : M) → right n ≡ counted number → right t ≡ counted c.tail → right h ≡ counted c.head

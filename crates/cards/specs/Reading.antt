@@ -37,7 +37,7 @@ abbrev pub named : Fault → Named
 named f = record { layer = f.layer; told = means f.refusal; line = f.line; byte = f.byte }
 
 abbrev pub fault_text : Named → List ℕ
-fault_text f = decimal f.told.number ++ codes " line " ++ decimal f.line ++ codes " byte " ++ decimal f.byte
+fault_text f = decimal f.told.number ++ (codes " line " ++ (decimal f.line ++ (codes " byte " ++ decimal f.byte)))
 
 abbrev pub report : {X : Type 0} → Result X Fault → Option Named
 report (Ok x) = None

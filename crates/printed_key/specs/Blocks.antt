@@ -9,6 +9,7 @@
 -- network_lines    the tree, a line for each link, a line for each tree branch
 -- refused_line     `refused`, the number, and the signed members of a shown loop or cut
 -- fault_line       `refused`, the number, and the line and byte of the fault
+-- refusal_of       the refusal of what stands in the way of a block
 -- stop_words       the words after `refused` of what stands in the way of a block
 -- stop_line        that line
 -- or_refused       the lines of what was granted, or the one refusal
@@ -32,6 +33,7 @@ use Rattle.cards.specs.Reading.{Named, named, State, cards_read}
 use Rattle.figures.specs.Readings.{reading_at}
 use Rattle.sheet.specs.declared.look.Look.{Look}
 use Rattle.sheet.specs.declared.plan.Plan.{Plan}
+use Rattle.sheet.specs.declared.refusal.Refusal.{Refusal}
 use Rattle.sheet.specs.declared.refusal.Shown.{Shown}
 use Rattle.sheet.specs.declared.row.Row.{Row}
 use Rattle.sheet.specs.Calls.{Sheet}
@@ -42,7 +44,7 @@ use Rattle.stories.specs.Steps.{stepped}
 use Rattle.topology.specs.Networks.{placed}
 use Rattle.topology.specs.Trees.{loop_row_of, cut_row_of}
 use Rattle.topology.specs.Words.{bits}
-use Rattle.printed_key.specs.declared.residues.Residues.{Residues}
+use Rattle.printed_key.specs.declared.card_sheet.CardSheet.{CardSheet}
 use Rattle.printed_key.specs.declared.stop.Stop.{Stop}
 use Rattle.printed_key.specs.declared.stop.Stop.TheVariants.{Refused, Faulty}
 use Rattle.printed_key.specs.Text.{Word, Line, listed}
@@ -90,6 +92,10 @@ fault_line f = record {
   name = codes "refused";
   words = decimal f.told.number ∷ codes "line" ∷ decimal f.line ∷ codes "byte" ∷ decimal f.byte ∷ [];
 }
+
+abbrev pub refusal_of : Stop → Refusal
+refusal_of (Refused r) = r
+refusal_of (Faulty f) = f.refusal
 
 abbrev pub stop_words : Stop → List Word
 stop_words (Refused r) = decimal (means r).number ∷ shown_words (means r).words
@@ -149,6 +155,6 @@ residue_step_lines s = or_refused remainder_lines (one_step residue_ops s)
 unfoldable pub residue_lines : List ℕ → List Line
 residue_lines input = or_fault residue_step_lines (cards_read residue_ops input (blank_sheet residue_ops))
 
-abbrev pub residue_lines_read : Result Residues Stop → List Line
+abbrev pub residue_lines_read : Result (CardSheet ℕ) Stop → List Line
 residue_lines_read (Ok s) = remainder_lines (meant_sheet residue (record { plan = s.plan; rows = s.rows }))
 residue_lines_read (Err stop) = stop_line stop ∷ []

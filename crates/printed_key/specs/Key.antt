@@ -4,20 +4,25 @@
 -- circuit_lines    those of a sheet that was read, or the refusal of its tree
 -- lines_by         of a card file: 25 for more than 4,096 bytes, a fault of the cards, or the circuit's lines
 -- lines_read       of a circuit that was read with its tree, or of what stood in its way
+-- tree_of_read     the tree of a sheet that was read, or the refusal that stands in its way
+-- circuit_tree     of a card file: 25 for more than 4,096 bytes, the refusal of a fault, or the answer of the circuit's tree
+-- tree_read        of a circuit that was read with its tree, or of what stood in its way
 -- network_blocks   the tree, loops and cuts alone
 -- key_blocks       the tree, loops and cuts, the readings, and the remainders of these cards
 -- key_lines        the lines of a whole key
 -- network_text     the bytes of the tree, loops and cuts, or of what stands in their place
 -- key_text         the bytes of a whole key
-use Rattle.std.specs.Prelude.{ℕ, cond, List, [], ◌∷◌, ◌++◌, length, nat_lt, Ok, Err, Result, Float}
+use Rattle.std.specs.Prelude.{ℕ, cond, List, [], ◌∷◌, ◌++◌, length, nat_lt, Some, None, Ok, Err, Option, Result, Float}
 use Rattle.arithmetic.specs.Binary64.{binary64_ops}
 use Rattle.cards.specs.Following.{blank_sheet}
-use Rattle.cards.specs.Reading.{cards_read}
+use Rattle.cards.specs.Reading.{Named, State, cards_read}
+use Rattle.sheet.specs.declared.plan.Plan.{Plan}
 use Rattle.sheet.specs.Calls.{Sheet}
+use Rattle.sheet.specs.Refusals.{Answer, granted, refused, refuse, means}
 use Rattle.topology.specs.Trees.{tree_of}
 use Rattle.printed_key.specs.declared.circuit.Circuit.{Circuit}
 use Rattle.printed_key.specs.declared.stop.Stop.{Stop}
-use Rattle.printed_key.specs.Blocks.{network_lines, refused_line, stop_line, or_refused, or_fault, step_lines, residue_lines}
+use Rattle.printed_key.specs.Blocks.{network_lines, refusal_of, refused_line, stop_line, or_refused, or_fault, step_lines, residue_lines}
 use Rattle.printed_key.specs.Text.{Line, text_of}
 
 abbrev pub Blocks : Type 0
@@ -33,8 +38,22 @@ lines_by blocks input =
     (or_fault (circuit_lines blocks) (cards_read binary64_ops input (blank_sheet binary64_ops)))
 
 abbrev pub lines_read : Blocks → Result Circuit Stop → List Line
-lines_read blocks (Ok c) = blocks (record { plan = c.plan; rows = c.rows }) c.tree
+lines_read blocks (Ok c) = blocks (record { plan = c.sheet.plan; rows = c.sheet.rows }) c.tree
 lines_read blocks (Err stop) = stop_line stop ∷ []
+
+abbrev pub tree_by : Option Named → Plan → Answer ℕ
+tree_by None p = tree_of p
+tree_by (Some f) p = refused f.told
+
+abbrev pub tree_of_read : State Float → Answer ℕ
+tree_of_read st = tree_by st.fault st.sheet.plan
+
+unfoldable pub circuit_tree : List ℕ → Answer ℕ
+circuit_tree input = refuse 25 (nat_lt 4096 (length input)) (tree_of_read (cards_read binary64_ops input (blank_sheet binary64_ops)))
+
+abbrev pub tree_read : Result Circuit Stop → Answer ℕ
+tree_read (Ok c) = granted c.tree
+tree_read (Err stop) = refused (means (refusal_of stop))
 
 abbrev pub network_blocks : Blocks
 network_blocks s w = network_lines s.plan w

@@ -1,30 +1,29 @@
 // The circuit that a key is printed of.
 ghost use Rattle.std.specs.Prelude.{◌≡◌};
-ghost use Rattle.printed_key.specs.Key.{Blocks, lines_by, lines_read};
+ghost use Rattle.printed_key.specs.Key.{Blocks, lines_by, lines_read, circuit_tree, tree_read};
 
 use crate::LONGEST;
+use crate::card_sheet::{CardSheet, read_sheet};
 use crate::stop::Stop;
-use cards::read_cards;
-use sheet::{Plan, Refusal, Row, fresh_rows};
+use sheet::Refusal;
 use topology::tree;
 
 // A sheet that was read from cards, with its tree.
-#[derive(Clone, Copy)]
-pub(crate) struct Circuit {
-    pub(crate) plan: Plan,
-    pub(crate) rows: [Row<f64>; 32],
-    pub(crate) tree: u32,
+#[derive(Drop)]
+pub struct Circuit {
+    pub sheet: CardSheet<f64>,
+    pub tree: u32,
 }
 
 // The circuit of a card file, or what stands in its way.
-pub(crate) fn read_circuit(input: &[u8]) -> Result<Circuit, Stop>
-    ensures { (blocks : Blocks) → lines_by blocks input.now ≡ lines_read blocks result }
+pub fn read_circuit(input: &[u8]) -> Result<Circuit, Stop>
+    ensures lines { (blocks : Blocks) → lines_by blocks input.now ≡ lines_read blocks result }
+    ensures tree { tree_read result ≡ circuit_tree input.now }
 {
     if input.len() > LONGEST {
         return Err(Stop::Refused(Refusal::InputTooLong));
     }
-    let (mut plan, mut rows) = (Plan::empty(), fresh_rows());
-    read_cards(input, &mut plan, &mut rows)?;
-    let tree = tree(&plan)?;
-    Ok(Circuit { plan, rows, tree })
+    let sheet = read_sheet(input)?;
+    let tree = tree(&sheet.plan)?;
+    Ok(Circuit { sheet, tree })
 }

@@ -3,8 +3,11 @@
 #![tactic(auto)]
 
 ghost use Rattle.std.specs.Prelude.{◌≡◌, ◌<◌, length, IfOk, string_bytes, codes};
-ghost use Rattle.printed_key.specs.Key.{key_text, network_text};
+ghost use Rattle.printed_key.specs.Key.{Blocks, key_blocks, key_text, lines_by, network_text};
+ghost use Rattle.printed_key.specs.Text.{Adds, text_of};
+ghost use Rattle.printed_key.specs.declared.circuit.Circuit.{Circuit};
 
+mod card_sheet;
 mod circuit;
 mod network;
 mod readings;
@@ -12,40 +15,59 @@ mod residues;
 mod stop;
 mod words;
 
-use circuit::read_circuit;
+pub use card_sheet::CardSheet;
+pub use circuit::{Circuit, read_circuit};
 use network::push_network;
 use readings::push_readings;
 use residues::push_residues;
 use std::alloc::{AllocError, Global};
+pub use stop::Stop;
 
 // The longest input, in bytes.
 pub const LONGEST: usize = 4096;
+
+// The text of a key: what the closure pushes of the circuit, or what stands in its way.
+fn text_by<F: FnOnce(&mut String, Circuit) -> Result<(), AllocError>>(
+    heap: Global,
+    input: &[u8],
+    push_blocks: F,
+) -> Result<String, AllocError>
+    requires { F.IsAlwaysCallable push_blocks }
+    ensures { (blocks : Blocks) → ((before after : _) (c : Circuit) (r : _) → F.post push_blocks before c r after → Adds r (string_bytes before.now) (string_bytes after.now) (text_of (blocks (record { plan = c.sheet.plan; rows = c.sheet.rows }) c.tree))) → IfOk result (λ t. string_bytes t ≡ text_of (lines_by blocks input.now)) }
+{
+    let mut text = String::new(heap);
+    match read_circuit(input) {
+        Ok(circuit) => push_blocks(&mut text, circuit)?,
+        Err(stop) => writeln!(text, "{stop}")?,
+    }
+    Ok(text)
+}
+
+// The blocks of a whole key.
+fn push_key(text: &mut String, mut circuit: Circuit, input: &[u8]) -> Result<(), AllocError>
+    ensures { Adds result (string_bytes text.old) (string_bytes text.new) (text_of (key_blocks input.now (record { plan = circuit.sheet.plan; rows = circuit.sheet.rows }) circuit.tree)) }
+{
+    let sheet = &mut circuit.sheet;
+    push_network(text, &sheet.plan, circuit.tree)?;
+    push_readings(text, &sheet.plan, &mut sheet.rows)?;
+    push_residues(text, input)
+}
 
 // The tree, loops and cuts of a card file. The only error is want of memory: every refusal is a line of the text.
 pub fn printed_key(heap: Global, input: &[u8]) -> Result<String, AllocError>
     ensures text { IfOk result (λ t. string_bytes t ≡ network_text input.now) }
     ensures too_long { 4096 < length input.now → IfOk result (λ t. string_bytes t ≡ codes "refused 25\n") }
 {
-    let mut text = String::new(heap);
-    match read_circuit(input) {
-        Ok(circuit) => push_network(&mut text, &circuit.plan, circuit.tree)?,
-        Err(stop) => writeln!(text, "{stop}")?,
-    }
-    Ok(text)
+    text_by(
+        heap,
+        input,
+        |text, circuit| push_network(text, &circuit.sheet.plan, circuit.tree),
+    )
 }
 
 // The same with the readings and the remainders.
 pub fn whole_key(heap: Global, input: &[u8]) -> Result<String, AllocError>
     ensures { IfOk result (λ t. string_bytes t ≡ key_text input.now) }
 {
-    let mut text = String::new(heap);
-    match read_circuit(input) {
-        Ok(mut circuit) => {
-            push_network(&mut text, &circuit.plan, circuit.tree)?;
-            push_readings(&mut text, &circuit.plan, &mut circuit.rows)?;
-            push_residues(&mut text, input)?;
-        }
-        Err(stop) => writeln!(text, "{stop}")?,
-    }
-    Ok(text)
+    text_by(heap, input, |text, circuit| push_key(text, circuit, input))
 }

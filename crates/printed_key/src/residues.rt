@@ -5,29 +5,26 @@ ghost use Rattle.printed_key.specs.Blocks.{remainder_lines, residue_lines, resid
 ghost use Rattle.printed_key.specs.Text.{Adds, text_of};
 ghost use Rattle.sheet.specs.Meanings.{meant_sheet};
 
+use crate::card_sheet::{CardSheet, read_sheet};
 use crate::stop::Stop;
 use arithmetic::{Arithmetic, remainder_of};
-use cards::read_cards;
-use sheet::{Plan, Row, fresh_rows};
+use sheet::{Plan, Row};
 use std::alloc::AllocError;
 use stepping::step;
 
-// A sheet in remainders.
-#[derive(Clone, Copy)]
-struct Residues {
-    plan: Plan,
-    rows: [Row<u16>; 32],
-}
-
 // The cards in remainders after one step of length 1.
-fn stepped_residues(input: &[u8]) -> Result<Residues, Stop>
+fn stepped_residues(input: &[u8]) -> Result<CardSheet<u16>, Stop>
     ensures { residue_lines input.now ≡ residue_lines_read result }
 {
-    let (mut plan, mut rows) = (Plan::empty(), fresh_rows());
-    read_cards(input, &mut plan, &mut rows)?;
+    let mut sheet = read_sheet::<u16>(input)?;
     let mut area = [<u16 as Arithmetic>::zero(); 304];
-    step(&plan, &mut rows, <u16 as Arithmetic>::one(), &mut area)?;
-    Ok(Residues { plan, rows })
+    step(
+        &sheet.plan,
+        &mut sheet.rows,
+        <u16 as Arithmetic>::one(),
+        &mut area,
+    )?;
+    Ok(sheet)
 }
 
 // `res 0 8189 6` for each branch.
@@ -49,7 +46,7 @@ pub(crate) fn push_residues(text: &mut String, input: &[u8]) -> Result<(), Alloc
     ensures { Adds result (string_bytes text.old) (string_bytes text.new) (text_of (residue_lines input.now)) }
 {
     match stepped_residues(input) {
-        Ok(residues) => push_places(text, &residues.plan, &residues.rows),
+        Ok(sheet) => push_places(text, &sheet.plan, &sheet.rows),
         Err(stop) => writeln!(text, "{stop}"),
     }
 }

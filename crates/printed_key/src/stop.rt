@@ -1,6 +1,6 @@
 // What stands in the way of a block, told in a line in its place.
 ghost use Rattle.std.specs.Prelude.{◌≡◌, ◌++◌, Some, codes};
-ghost use Rattle.printed_key.specs.Blocks.{stop_words};
+ghost use Rattle.printed_key.specs.Blocks.{refusal_of, stop_words};
 ghost use Rattle.printed_key.specs.Text.{spaced};
 ghost use Rattle.printed_key.specs.declared.stop.Stop.TheVariants.{Refused, Faulty};
 
@@ -10,11 +10,23 @@ use sheet::Refusal;
 use std::fmt;
 
 #[derive(Clone, Copy)]
-pub(crate) enum Stop {
+pub enum Stop {
     // The circuit or a step of it is refused.
     Refused(Refusal),
     // A card is.
     Faulty(Fault),
+}
+
+impl Stop {
+    // The refusal of the circuit, the step or the card.
+    pub fn refusal(self) -> Refusal
+        ensures { result ≡ refusal_of self }
+    {
+        match self {
+            Stop::Refused(refusal) => refusal,
+            Stop::Faulty(fault) => fault.refusal,
+        }
+    }
 }
 
 impl From<Refusal> for Stop {
@@ -43,10 +55,7 @@ impl fmt::Display for Stop {
                 Some(shown) => write!(f, "refused {refusal}{}", Signed(shown)),
                 None => write!(f, "refused {refusal}"),
             },
-            Stop::Faulty(fault) => {
-                let (refusal, line, byte) = (fault.refusal, fault.line, fault.byte);
-                write!(f, "refused {refusal} line {line} byte {byte}")
-            }
+            Stop::Faulty(fault) => write!(f, "refused {fault}"),
         }
     }
 }
