@@ -1,13 +1,22 @@
 // Hard texts, each with the fault that it meets, or `Ok` where it is accepted.
 use crate::answer::{Answer, answer_of};
+use arithmetic::Arithmetic;
 use cards::Layer;
-use sheet::fresh_rows;
+use sheet::{Row, fresh_rows};
+use std::process::Abort;
 
 const CARDS: Layer = Layer::Cards;
 
 const SHEET: Layer = Layer::Sheet;
 
 type Case = (&'static [u8], Answer);
+
+// Each text has its answer, on rows that may hold anything.
+fn all_answer<N: Arithmetic>(rt: &impl Abort, cases: &[Case], rows: &mut [Row<N>]) {
+    for (text, expected) in cases {
+        assert_eq!(rt; answer_of(text, rows), *expected);
+    }
+}
 
 static IN_DRAWING: [Case; 104] = [
     // Letters and what stands first on a line.
@@ -125,10 +134,7 @@ static IN_DRAWING: [Case; 104] = [
 
 #[test]
 fn faults_in_drawing(rt: HostRuntime) {
-    let mut rows = fresh_rows::<f64>();
-    for (text, expected) in &IN_DRAWING {
-        assert_eq!(rt; answer_of(text, &mut rows), *expected);
-    }
+    all_answer(&rt, &IN_DRAWING, &mut fresh_rows::<f64>());
 }
 
 static IN_REMAINDERS: [Case; 9] = [
@@ -146,8 +152,5 @@ static IN_REMAINDERS: [Case; 9] = [
 
 #[test]
 fn faults_in_remainders(rt: HostRuntime) {
-    let mut rows = fresh_rows::<u16>();
-    for (text, expected) in &IN_REMAINDERS {
-        assert_eq!(rt; answer_of(text, &mut rows), *expected);
-    }
+    all_answer(&rt, &IN_REMAINDERS, &mut fresh_rows::<u16>());
 }

@@ -1,12 +1,28 @@
 use printed_key::{printed_key, whole_key};
 use std::alloc::{AllocError, Global};
+use std::process::Abort;
 use std::test::Fail;
 
-// Whether both keys of the input are that text.
-fn both_print(heap: Global, input: &[u8], text: &[u8]) -> Result<bool, AllocError> {
-    let printed = printed_key(heap, input)?;
-    let whole = whole_key(heap, input)?;
-    Ok(printed.as_bytes() == text && whole.as_bytes() == text)
+// Each input has that text as its key.
+fn all_print<F: Fn(Global, &[u8]) -> Result<String, AllocError>>(
+    rt: &impl Abort,
+    heap: Global,
+    table: &[(&[u8], &[u8])],
+    key_of: F,
+) -> Result<(), Fail>
+    requires { F.IsAlwaysCallable key_of }
+{
+    for (input, text) in table {
+        let key = key_of(heap, input)?;
+        assert!(rt; key.as_bytes() == *text);
+    }
+    Ok(())
+}
+
+// The same of both keys.
+fn both_print(rt: &impl Abort, heap: Global, table: &[(&[u8], &[u8])]) -> Result<(), Fail> {
+    all_print(rt, heap, table, printed_key)?;
+    all_print(rt, heap, table, whole_key)
 }
 
 #[test]
@@ -33,11 +49,7 @@ fn trees_loops_and_cuts(rt: HostRuntime) -> Result<(), Fail> {
             b"tree 1\nloop 3 +1 +3\nloop 7 -1 +7\nloop 9 +1 +9\ncut 1 +1 -3 +7 -9\n",
         ),
     ];
-    for (input, text) in table {
-        let key = printed_key(rt.alloc(), input)?;
-        assert!(rt; key.as_bytes() == text);
-    }
-    Ok(())
+    all_print(&rt, rt.alloc(), &table, printed_key)
 }
 
 #[test]
@@ -70,11 +82,7 @@ fn keys(rt: HostRuntime) -> Result<(), Fail> {
             b"tree 1\nloop 3 +1 +3\nloop 7 -1 +7\nloop 9 +1 +9\ncut 1 +1 -3 +7 -9\nmv 1 545\nmv 3 -545\nmv 7 545\nmv 9 -545\nres 1 5213 5213\nres 3 1 2978\nres 7 6702 5213\nres 9 3723 2978\n",
         ),
     ];
-    for (input, text) in table {
-        let key = whole_key(rt.alloc(), input)?;
-        assert!(rt; key.as_bytes() == text);
-    }
-    Ok(())
+    all_print(&rt, rt.alloc(), &table, whole_key)
 }
 
 #[test]
@@ -85,10 +93,7 @@ fn refused_trees(rt: HostRuntime) -> Result<(), Fail> {
         (b"I0 1 0 1\nI1 0 1 1\n", b"refused 13 +0 -1\n"),
         (b"R9 2 3 1\nI4 1 2 1\nI5 3 1 1\n", b"refused 13 +4 -5\n"),
     ];
-    for (input, text) in table {
-        assert!(rt; both_print(rt.alloc(), input, text)?);
-    }
-    Ok(())
+    both_print(&rt, rt.alloc(), &table)
 }
 
 #[test]
@@ -116,10 +121,7 @@ fn faults(rt: HostRuntime) -> Result<(), Fail> {
         (b"R0 1 2 0", b"refused 8 line 1 byte 1\n"),
         (b"R0\t1 2 3", b"refused 22 line 1 byte 2\n"),
     ];
-    for (input, text) in table {
-        assert!(rt; both_print(rt.alloc(), input, text)?);
-    }
-    Ok(())
+    both_print(&rt, rt.alloc(), &table)
 }
 
 // A refusal in place of one block leaves the other; no reading is `-0`.
@@ -155,17 +157,12 @@ fn steps(rt: HostRuntime) -> Result<(), Fail> {
             b"tree 0\ncut 0 +0\nmv 0 0\nres 0 0 7948\n",
         ),
     ];
-    for (input, text) in table {
-        let key = whole_key(rt.alloc(), input)?;
-        assert!(rt; key.as_bytes() == text);
-    }
-    Ok(())
+    all_print(&rt, rt.alloc(), &table, whole_key)
 }
 
 // 4,096 bytes are read; one more is too long, whatever they are.
 #[test]
 fn lengths(rt: HostRuntime) -> Result<(), Fail> {
-    assert!(rt; both_print(rt.alloc(), &[b' '; 4096], b"tree\n")?);
-    assert!(rt; both_print(rt.alloc(), &[b' '; 4097], b"refused 25\n")?);
-    Ok(())
+    let table: [(&[u8], &[u8]); 2] = [(&[b' '; 4096], b"tree\n"), (&[b' '; 4097], b"refused 25\n")];
+    both_print(&rt, rt.alloc(), &table)
 }

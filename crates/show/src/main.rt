@@ -25,10 +25,7 @@ const LONGEST: u64 = 4096;
 fn show(rt: &HostRuntime, asked: Asked, cards: &[u8]) -> anyhow::Result<()> {
     let (mut plan, mut rows) = (Plan::empty(), fresh_rows::<f64>());
     if let Err(fault) = read_cards(cards, &mut plan, &mut rows) {
-        println!(rt;
-            "refused {} line {} byte {}",
-            fault.refusal, fault.line, fault.byte
-        )?;
+        println!(rt; "refused {fault}")?;
         return Ok(());
     }
     show_matrices(rt, &plan)?;

@@ -3,14 +3,10 @@
 #![tactic(auto)]
 
 ghost use Rattle.std.specs.Prelude.{◌≡◌, length};
-ghost use Rattle.sheet.specs.Refusals.{told};
-ghost use Rattle.station.specs.Station.{in_front, Keyed, mark, mark_of};
+ghost use Rattle.station.specs.Station.{in_front, Keyed, mark_of};
 
-use cards::read_cards;
-use printed_key::{LONGEST, whole_key};
-use sheet::{Plan, Refusal, fresh_rows};
+use printed_key::{read_circuit, whole_key};
 use std::alloc::Global;
-use topology::tree;
 
 // What is answered for want of memory, since C takes a number alone.
 const NO_MEMORY: usize = usize::MAX;
@@ -39,29 +35,14 @@ pub extern "C" fn covshurii_key(heap: Global, cards: &[u8], buffer: &mut [u8]) -
     }
 }
 
-// The refusal that ends the key of a card file before its steps, if there is one.
-fn check_circuit(cards: &[u8]) -> Result<(), Refusal>
-    ensures { mark (told result) ≡ mark_of cards.now }
-{
-    if cards.len() > LONGEST {
-        return Err(Refusal::InputTooLong);
-    }
-    let (mut plan, mut rows) = (Plan::empty(), fresh_rows::<f64>());
-    if let Err(fault) = read_cards(cards, &mut plan, &mut rows) {
-        return Err(fault.refusal);
-    }
-    let _ = tree(&plan)?;
-    Ok(())
-}
-
 // The number of the refusal that ends the key of a card file before its steps; 0 where there is none, since C takes a
 // number alone.
 #[unsafe(no_mangle)]
 pub extern "C" fn covshurii_mark(cards: &[u8]) -> u32
     ensures { result ≡ mark_of cards.now }
 {
-    match check_circuit(cards) {
-        Ok(()) => 0,
-        Err(refusal) => refusal.number(),
+    match read_circuit(cards) {
+        Ok(_) => 0,
+        Err(stop) => stop.refusal().number(),
     }
 }
