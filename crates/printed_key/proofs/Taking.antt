@@ -1,7 +1,6 @@
 -- Readings taken one after another.
-use Rattle.std.proofs.Common.{◌≡◌, ℕ, zero, suc, ◌+◌, ◌-◌, ◌<◌, ◌≤◌, List, [], ◌∷◌, ◌++◌, length, take, set, ℤ, Option, sym, refl, ap, ◌∙◌, add-one, arith, take-suc-set}
+use Rattle.std.proofs.Common.{◌≡◌, ℕ, zero, suc, ◌+◌, ◌-◌, ◌<◌, List, [], ◌∷◌, ◌++◌, length, take, set, ℤ, Option, sym, refl, ap, ◌∙◌, add-one, arith, take-suc-set}
 use lib.Ieee.{Float}
-use Rattle.std.proofs.lemmas.List.{take_all}
 use Rattle.sheet.specs.declared.plan.Plan.{Plan}
 use Rattle.sheet.specs.declared.row.Row.{Row}
 use Rattle.sheet.specs.Refusals.{Answer, granted, refused, after, Told}
@@ -42,8 +41,3 @@ module _ (p : Plan) (rows : List (Row Float)) where
       let eq : 32 ≡ d + suc k = omega arith in
       ap (readings_below p rows) eq
       ∙ refused_on d (suc k) t (below_suc k ∙ ap (next k) e ∙ ap (λ a. after a (λ z. granted (zs ++ (z ∷ [])))) (sym g))
-
-  pub all-taken : (zs : List (Option ℤ)) (k : ℕ) → k ≡ 32 → length zs ≡ 32 → readings_below p rows k ≡ granted (take k zs) → readings_below p rows 32 ≡ granted zs
-  all-taken zs k e n h =
-      let m : length zs ≤ k = omega arith in
-      ap (readings_below p rows) (sym e) ∙ h ∙ ap granted (take_all k zs m)

@@ -1,5 +1,6 @@
 // The printed key of a card file, as text. `printed_key` prints the tree, loops and cuts of its circuit, and `whole_key`
-// the readings and the remainders after one time step too; or the refusals that stand in their place.
+// the readings and the remainders after one time step too; or the refusals that stand in their place. `read_circuit`
+// answers the circuit itself.
 #![tactic(auto)]
 
 ghost use Rattle.std.specs.Prelude.{◌≡◌, ◌<◌, length, IfOk, string_bytes, codes};
@@ -47,9 +48,8 @@ fn text_by<F: FnOnce(&mut String, Circuit) -> Result<(), AllocError>>(
 fn push_key(text: &mut String, mut circuit: Circuit, input: &[u8]) -> Result<(), AllocError>
     ensures { Adds result (string_bytes text.old) (string_bytes text.new) (text_of (key_blocks input.now (record { plan = circuit.sheet.plan; rows = circuit.sheet.rows }) circuit.tree)) }
 {
-    let sheet = &mut circuit.sheet;
-    push_network(text, &sheet.plan, circuit.tree)?;
-    push_readings(text, &sheet.plan, &mut sheet.rows)?;
+    push_network(text, &circuit.sheet.plan, circuit.tree)?;
+    push_readings(text, &mut circuit.sheet)?;
     push_residues(text, input)
 }
 

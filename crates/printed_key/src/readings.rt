@@ -1,9 +1,10 @@
 // The block of readings: voltages in whole thousandths after one step in binary64.
-ghost use Rattle.std.specs.Prelude.{◌≡◌, length, string_bytes};
+ghost use Rattle.std.specs.Prelude.{◌≡◌, string_bytes};
 ghost use Rattle.printed_key.specs.Blocks.{reading_here, readings_below, readings_after, reading_lines, step_lines};
 ghost use Rattle.printed_key.specs.Text.{Adds, text_of};
 ghost use Rattle.sheet.specs.Refusals.{told};
 
+use crate::card_sheet::CardSheet;
 use crate::stop::Stop;
 use arithmetic::Arithmetic;
 use figures::reading;
@@ -34,13 +35,17 @@ fn readings(plan: &Plan, rows: &[Row<f64>]) -> Result<[Option<i32>; 32], Refusal
 }
 
 // The readings of all branches after one step of length 1.
-fn stepped_readings(plan: &Plan, rows: &mut [Row<f64>]) -> Result<[Option<i32>; 32], Refusal>
-    requires { length rows.old ≡ 32 }
-    ensures { told result ≡ readings_after (record { plan = plan.now; rows = rows.old }) }
+fn stepped_readings(sheet: &mut CardSheet<f64>) -> Result<[Option<i32>; 32], Refusal>
+    ensures { told result ≡ readings_after (record { plan = sheet.old.plan; rows = sheet.old.rows }) }
 {
     let mut area = [<f64 as Arithmetic>::zero(); 304];
-    step(plan, rows, <f64 as Arithmetic>::one(), &mut area)?;
-    readings(plan, rows)
+    step(
+        &sheet.plan,
+        &mut sheet.rows,
+        <f64 as Arithmetic>::one(),
+        &mut area,
+    )?;
+    readings(&sheet.plan, &sheet.rows)
 }
 
 // `mv 1 4000` for each branch.
@@ -56,15 +61,10 @@ fn push_taken(text: &mut String, readings: &[Option<i32>; 32]) -> Result<(), All
 }
 
 // A line for each branch, or one refusal in place of them all.
-pub(crate) fn push_readings(
-    text: &mut String,
-    plan: &Plan,
-    rows: &mut [Row<f64>],
-) -> Result<(), AllocError>
-    requires { length rows.old ≡ 32 }
-    ensures { Adds result (string_bytes text.old) (string_bytes text.new) (text_of (step_lines (record { plan = plan.now; rows = rows.old }))) }
+pub(crate) fn push_readings(text: &mut String, sheet: &mut CardSheet<f64>) -> Result<(), AllocError>
+    ensures { Adds result (string_bytes text.old) (string_bytes text.new) (text_of (step_lines (record { plan = sheet.old.plan; rows = sheet.old.rows }))) }
 {
-    match stepped_readings(plan, rows) {
+    match stepped_readings(sheet) {
         Ok(readings) => push_taken(text, &readings),
         Err(refusal) => writeln!(text, "{}", Stop::Refused(refusal)),
     }

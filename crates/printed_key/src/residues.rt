@@ -8,7 +8,6 @@ ghost use Rattle.sheet.specs.Meanings.{meant_sheet};
 use crate::card_sheet::{CardSheet, read_sheet};
 use crate::stop::Stop;
 use arithmetic::{Arithmetic, remainder_of};
-use sheet::{Plan, Row};
 use std::alloc::AllocError;
 use stepping::step;
 
@@ -28,11 +27,11 @@ fn stepped_residues(input: &[u8]) -> Result<CardSheet<u16>, Stop>
 }
 
 // `res 0 8189 6` for each branch.
-fn push_places(text: &mut String, plan: &Plan, rows: &[Row<u16>]) -> Result<(), AllocError>
-    ensures { Adds result (string_bytes text.old) (string_bytes text.new) (text_of (remainder_lines (meant_sheet residue (record { plan = plan.now; rows = rows.now })))) }
+fn push_places(text: &mut String, sheet: &CardSheet<u16>) -> Result<(), AllocError>
+    ensures { Adds result (string_bytes text.old) (string_bytes text.new) (text_of (remainder_lines (meant_sheet residue (record { plan = sheet.now.plan; rows = sheet.now.rows })))) }
 {
     for k in 0..32 {
-        if let Some(look) = plan.look(rows, k) {
+        if let Some(look) = sheet.plan.look(&sheet.rows, k) {
             let current = remainder_of(look.current);
             let voltage = remainder_of(look.voltage);
             writeln!(text, "res {k} {current} {voltage}")?;
@@ -46,7 +45,7 @@ pub(crate) fn push_residues(text: &mut String, input: &[u8]) -> Result<(), Alloc
     ensures { Adds result (string_bytes text.old) (string_bytes text.new) (text_of (residue_lines input.now)) }
 {
     match stepped_residues(input) {
-        Ok(sheet) => push_places(text, &sheet.plan, &sheet.rows),
+        Ok(sheet) => push_places(text, &sheet),
         Err(stop) => writeln!(text, "{stop}"),
     }
 }

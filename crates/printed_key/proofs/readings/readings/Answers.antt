@@ -1,7 +1,7 @@
-use Rattle.std.proofs.Common.{◌≡◌, ◌<◌, [], length, sym, refl, ap, ◌∙◌, arith, length-set}
+use Rattle.std.proofs.Common.{◌<◌, [], length, sym, refl, ap, ◌∙◌, arith, length-set}
 use Rattle.std.proofs.lemmas.Result.{err_from_is_err_and}
 use Rattle.sheet.specs.Refusals.{told, refused, means}
-use Rattle.printed_key.proofs.Taking.{none-taken, one-taken, one-refused, all-taken}
+use Rattle.printed_key.proofs.Taking.{none-taken, one-taken, one-refused}
 use Rattle.printed_key.proofs.readings.readings.Goals as goal
 
 pub loop-k-init : goal.loop-k-init
@@ -18,6 +18,3 @@ returns-in_err-reading c =
     let h : c.loop-k.k < 32 = omega arith in
     ap told q.1 ∙ ap (λ e. refused (means e)) q.2
     ∙ sym (one-refused _ _ _ _ _ h c.loop-k.invariant.0 c.in_err-reading.ensures)
-
-pub returns : goal.returns
-returns c = let end : c.loop-k.k ≡ 32 = omega arith in sym (all-taken _ _ _ _ end c.loop-k.invariant.1 c.loop-k.invariant.0)

@@ -16,8 +16,8 @@ pub loop-k-preserved : goal.loop-k-preserved
 loop-k-preserved c =
     let k = c.loop-k.k-counter in
     let a = string_bytes c.loop-k.text in
-    let seen_here = sym (seen_meant c.args.plan.now c.args.rows.now k) in
-    more_lines (λ k. remainder_line k (seen (residue 0) c.args.plan.now (map (meant_row residue) c.args.rows.now) k)) _ _ _ _
+    let seen_here = sym (seen_meant c.args.sheet.now.plan c.args.sheet.now.rows k) in
+    more_lines (λ k. remainder_line k (seen (residue 0) c.args.sheet.now.plan (map (meant_row residue) c.args.sheet.now.rows) k)) _ _ _ _
     c.loop-k.invariant
     (elim c.match-look.branch [
       | in-Some+in_ok-writeln w ↦
