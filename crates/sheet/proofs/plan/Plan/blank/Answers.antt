@@ -1,9 +1,0 @@
-use Rattle.std.proofs.Common.{rules}
-use Rattle.sheet.proofs.Meanings.{both_ways}
-use Rattle.sheet.proofs.plan.Plan.blank.Goals as goal
-
-pub returns-then-rows-ne32 : goal.returns-then-rows-ne32
-returns-then-rows-ne32 g c = both_ways g.N.Arithmetic.ops g.N.Arithmetic.mean g.N.Arithmetic.nil g.met.N.Arithmetic.nought (search rules)
-
-pub returns : goal.returns
-returns g c = both_ways g.N.Arithmetic.ops g.N.Arithmetic.mean g.N.Arithmetic.nil g.met.N.Arithmetic.nought (search rules)
