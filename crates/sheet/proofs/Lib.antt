@@ -1,3 +1,2 @@
 pub mod Drawing
 pub mod Meanings
-pub mod Outcomes

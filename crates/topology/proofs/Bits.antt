@@ -6,7 +6,7 @@ use lib.Bits.{bit_and, bit_or, bit_xor, or_shifted_r}
 use Rattle.std.proofs.lemmas.Nat.{mod_below, one_shl}
 use Rattle.std.proofs.lemmas.Nat.Bits.{bit_at_and, bit_at_or, bit_at_xor, bit_at_above, bit_at-pow_same, bit_at-pow_other, same_from_bits_below}
 use Rattle.std.specs.Int.{bit_at}
-use Rattle.std.proofs.lemmas.Bool.{eq-eqb, ne_eqb, cases_eq, cases_lt, lt-ltb, le-ltb, and_left, and_right, and_from, or_right, both_ways}
+use Rattle.std.proofs.lemmas.Bool.{eq-eqb, ne_eqb, cases_eq, cases_lt, lt-ltb, le-ltb, and_left, and_right, and_from, or_right}
 use Rattle.graphs.specs.Graph.{Set, with, without, Below}
 use Rattle.graphs.proofs.Sets.{under_less, under_same, same}
 use Rattle.topology.specs.Words.{bits, those, word, under}
@@ -63,13 +63,6 @@ bits-one k j = go (cases_eq j k)
 
 pub bits_zero : (j : ℕ) → bits 0 j ≡ false
 bits_zero j = bits_past 0 j 0 (omega arith) (omega arith)
-
-pub bits_below : (w n : ℕ) → w < 2 ^ n → Below n (bits w)
-bits_below w n h k m = go (cases_lt k n)
-  where
-    go : (k < n) ⊎ (n ≤ k) → k < n
-    go (inl lt) = lt
-    go (inr le) = absurd (both_ways (bits w k) (bits_past w k n h le) m)
 
 pub without_past : (w k n : ℕ) → w < 2 ^ n → n ≤ k → without (bits w) k ≡ bits w
 without_past w k n h le = fun_ext (λ j. go j (cases_eq j k))
