@@ -1,0 +1,184 @@
+//! Measures the engine beside plain Rust and ngspice, in one run and by turns. `bench/run` builds it and calls it as
+//!
+//!     harness KEY STEPS PLAIN COUNT NAME CARDS NETLIST [NAME CARDS NETLIST]..
+//!
+//! with the programs `key`, `steps` and `plain`, how many steps are taken, and for each circuit its name, its card file
+//! and the companion network of one step of it.
+
+use std::error::Error;
+use std::fs::{self, File};
+use std::hint::black_box;
+use std::process::{Command, Stdio};
+use std::time::Instant;
+
+/// Turns of each measurement.
+const KEY_TURNS: usize = 401;
+const STEP_TURNS: usize = 7;
+const PROCESS_TURNS: usize = 101;
+
+/// How long one turn of whole keys takes about, in seconds.
+const TURN: f64 = 0.001;
+
+extern "C" {
+    /// As station/covshurii.h has it.
+    fn covshurii_key(cards: *const u8, cards_length: usize, buffer: *mut u8, buffer_length: usize) -> usize;
+}
+
+type Answer<T> = Result<T, Box<dyn Error>>;
+
+fn engine_key(cards: &[u8], buffer: &mut [u8]) -> usize {
+    // SAFETY: the pointers and lengths are those of two slices that do not overlap.
+    unsafe { covshurii_key(cards.as_ptr(), cards.len(), buffer.as_mut_ptr(), buffer.len()) }
+}
+
+fn plain_key(cards: &[u8], buffer: &mut [u8]) -> usize {
+    let text = plain::key::whole_key(cards);
+    buffer[..text.len()].copy_from_slice(text.as_bytes());
+    text.len()
+}
+
+struct Circuit {
+    name: String,
+    cards: String,
+    netlist: String,
+}
+
+fn median(mut figures: Vec<f64>) -> f64 {
+    figures.sort_by(f64::total_cmp);
+    figures[figures.len() / 2]
+}
+
+fn seconds(task: impl FnOnce()) -> f64 {
+    let begin = Instant::now();
+    task();
+    begin.elapsed().as_secs_f64()
+}
+
+fn load() -> String {
+    let load = fs::read_to_string("/proc/loadavg").unwrap_or_default();
+    load.split(' ').take(3).collect::<Vec<_>>().join(" ")
+}
+
+/// Seconds for one whole key in this process: the engine's and plain Rust's.
+fn key_times(circuit: &Circuit) -> Answer<(f64, f64)> {
+    let cards = fs::read(&circuit.cards)?;
+    let (mut ours, mut theirs) = ([0; 8192], [0; 8192]);
+    let (a, b) = (engine_key(&cards, &mut ours), plain_key(&cards, &mut theirs));
+    if ours.get(..a) != theirs.get(..b) {
+        return Err("the keys differ".into());
+    }
+    let batch = |key: fn(&[u8], &mut [u8]) -> usize, count: usize| {
+        let mut buffer = [0; 8192];
+        let taken = seconds(|| {
+            for _ in 0..count {
+                black_box(key(black_box(&cards), black_box(&mut buffer)));
+            }
+        });
+        taken / count as f64
+    };
+    let counts = [engine_key, plain_key].map(|key| {
+        batch(key, 10);
+        (TURN / batch(key, 10)).ceil() as usize
+    });
+    let (mut engine, mut plain) = (Vec::new(), Vec::new());
+    for _ in 0..KEY_TURNS {
+        engine.push(batch(engine_key, counts[0]));
+        plain.push(batch(plain_key, counts[1]));
+    }
+    Ok((median(engine), median(plain)))
+}
+
+/// Runs a program on a card file; what it prints.
+fn output(program: &[&str], input: &str) -> Answer<Vec<u8>> {
+    let ran = Command::new(program[0]).args(&program[1..]).stdin(File::open(input)?).output()?;
+    if !ran.status.success() {
+        return Err(format!("{program:?} ended with {}", ran.status).into());
+    }
+    Ok(ran.stdout)
+}
+
+/// Seconds of a program's run on a file.
+fn run_time(program: &[&str], input: &str) -> Answer<f64> {
+    let mut command = Command::new(program[0]);
+    command
+        .args(&program[1..])
+        .stdin(File::open(input)?)
+        .stdout(Stdio::null())
+        .stderr(Stdio::null());
+    let begin = Instant::now();
+    let status = command.status()?;
+    let taken = begin.elapsed().as_secs_f64();
+    if !status.success() {
+        return Err(format!("{program:?} ended with {status}").into());
+    }
+    Ok(taken)
+}
+
+/// Seconds for one step: the engine's and plain Rust's. Each turn is many steps less none, in a process.
+fn step_times(steps: &str, plain: &str, count: &str, circuit: &Circuit) -> Answer<(f64, f64)> {
+    let ours = [steps, count];
+    let theirs = [plain, "steps", count];
+    if output(&ours, &circuit.cards)? != output(&theirs, &circuit.cards)? {
+        return Err("the figures after the steps differ".into());
+    }
+    let many: f64 = count.parse()?;
+    let (mut engine, mut rust) = (Vec::new(), Vec::new());
+    for _ in 0..STEP_TURNS {
+        let one = run_time(&ours, &circuit.cards)? - run_time(&[steps, "0"], &circuit.cards)?;
+        engine.push(one / many);
+        let one = run_time(&theirs, &circuit.cards)? - run_time(&[plain, "steps", "0"], &circuit.cards)?;
+        rust.push(one / many);
+    }
+    Ok((median(engine), median(rust)))
+}
+
+/// Seconds for a run of `key` and for one of ngspice.
+fn process_times(key: &str, circuit: &Circuit) -> Answer<(f64, f64)> {
+    let (mut ours, mut theirs) = (Vec::new(), Vec::new());
+    for _ in 0..PROCESS_TURNS {
+        ours.push(run_time(&[key], &circuit.cards)?);
+        theirs.push(run_time(&["ngspice", "-b", &circuit.netlist], "/dev/null")?);
+    }
+    Ok((median(ours), median(theirs)))
+}
+
+fn main() -> Answer<()> {
+    let words: Vec<String> = std::env::args().skip(1).collect();
+    let [key, steps, plain, count, rest @ ..] = &words[..] else {
+        return Err("usage: harness KEY STEPS PLAIN COUNT NAME CARDS NETLIST ..".into());
+    };
+    let circuits: Vec<Circuit> = rest
+        .chunks_exact(3)
+        .map(|words| Circuit {
+            name: words[0].clone(),
+            cards: words[1].clone(),
+            netlist: words[2].clone(),
+        })
+        .collect();
+    println!("load of the machine before: {}", load());
+    println!("\nmicroseconds, median      engine      plain   engine / plain");
+    let mut in_process = Vec::new();
+    for circuit in &circuits {
+        let (engine, plain) = key_times(circuit)?;
+        in_process.push(engine);
+        line("whole key", circuit, engine * 1e6, plain * 1e6, engine / plain);
+    }
+    for circuit in &circuits {
+        let (engine, plain) = step_times(steps, plain, count, circuit)?;
+        line("one step", circuit, engine * 1e6, plain * 1e6, engine / plain);
+    }
+    println!("\nmilliseconds, median         key    ngspice    ngspice / key   ngspice / whole key in process");
+    for (circuit, whole) in circuits.iter().zip(in_process) {
+        let (ours, theirs) = process_times(key, circuit)?;
+        println!(
+            "{:<10} {:>3} branches {:>9.2}  {:>9.2}  {:>15.1}  {:>31.0}",
+            "process", circuit.name, ours * 1e3, theirs * 1e3, theirs / ours, theirs / whole
+        );
+    }
+    println!("\nload of the machine after: {}", load());
+    Ok(())
+}
+
+fn line(what: &str, circuit: &Circuit, engine: f64, plain: f64, ratio: f64) {
+    println!("{what:<10} {:>3} branches {engine:>9.2}  {plain:>9.2}  {ratio:>15.2}", circuit.name);
+}
