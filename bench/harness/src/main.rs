@@ -16,19 +16,47 @@ const KEY_TURNS: usize = 401;
 const STEP_TURNS: usize = 7;
 const PROCESS_TURNS: usize = 101;
 
-/// How long one turn of whole keys takes about, in seconds.
-const TURN: f64 = 0.001;
+/// How long one turn of whole keys takes about, in processor seconds.
+const TURN: f64 = 0.002;
 
 extern "C" {
     /// As station/covshurii.h has it.
-    fn covshurii_key(cards: *const u8, cards_length: usize, buffer: *mut u8, buffer_length: usize) -> usize;
+    fn covshurii_key(
+        cards: *const u8,
+        cards_length: usize,
+        buffer: *mut u8,
+        buffer_length: usize,
+    ) -> usize;
+
+    /// The C library's, on Linux.
+    fn getrusage(who: i32, usage: *mut Usage) -> i32;
 }
+
+/// What a process has used: processor time in seconds and microseconds, its own and the system's, and figures that are
+/// not read here.
+#[repr(C)]
+#[derive(Default)]
+struct Usage {
+    own: [i64; 2],
+    system: [i64; 2],
+    others: [i64; 14],
+}
+
+const THIS_PROCESS: i32 = 0;
+const ENDED_PROGRAMS: i32 = -1;
 
 type Answer<T> = Result<T, Box<dyn Error>>;
 
 fn engine_key(cards: &[u8], buffer: &mut [u8]) -> usize {
     // SAFETY: the pointers and lengths are those of two slices that do not overlap.
-    unsafe { covshurii_key(cards.as_ptr(), cards.len(), buffer.as_mut_ptr(), buffer.len()) }
+    unsafe {
+        covshurii_key(
+            cards.as_ptr(),
+            cards.len(),
+            buffer.as_mut_ptr(),
+            buffer.len(),
+        )
+    }
 }
 
 fn plain_key(cards: &[u8], buffer: &mut [u8]) -> usize {
@@ -48,10 +76,16 @@ fn median(mut figures: Vec<f64>) -> f64 {
     figures[figures.len() / 2]
 }
 
-fn seconds(task: impl FnOnce()) -> f64 {
-    let begin = Instant::now();
-    task();
-    begin.elapsed().as_secs_f64()
+/// Processor seconds used by this process, or by all programs that it ran and that have ended.
+fn used_by(who: i32) -> f64 {
+    let mut usage = Usage::default();
+    // SAFETY: the structure is laid out as the C library's on Linux with 64 bits.
+    let failed = unsafe { getrusage(who, &mut usage) };
+    assert_eq!(failed, 0, "getrusage failed");
+    [usage.own, usage.system]
+        .map(|[s, us]| s as f64 + us as f64 * 1e-6)
+        .iter()
+        .sum()
 }
 
 fn load() -> String {
@@ -59,26 +93,28 @@ fn load() -> String {
     load.split(' ').take(3).collect::<Vec<_>>().join(" ")
 }
 
-/// Seconds for one whole key in this process: the engine's and plain Rust's.
+/// Processor seconds for one whole key in this process: the engine's and plain Rust's.
 fn key_times(circuit: &Circuit) -> Answer<(f64, f64)> {
     let cards = fs::read(&circuit.cards)?;
     let (mut ours, mut theirs) = ([0; 8192], [0; 8192]);
-    let (a, b) = (engine_key(&cards, &mut ours), plain_key(&cards, &mut theirs));
+    let (a, b) = (
+        engine_key(&cards, &mut ours),
+        plain_key(&cards, &mut theirs),
+    );
     if ours.get(..a) != theirs.get(..b) {
         return Err("the keys differ".into());
     }
     let batch = |key: fn(&[u8], &mut [u8]) -> usize, count: usize| {
         let mut buffer = [0; 8192];
-        let taken = seconds(|| {
-            for _ in 0..count {
-                black_box(key(black_box(&cards), black_box(&mut buffer)));
-            }
-        });
-        taken / count as f64
+        let before = used_by(THIS_PROCESS);
+        for _ in 0..count {
+            black_box(key(black_box(&cards), black_box(&mut buffer)));
+        }
+        (used_by(THIS_PROCESS) - before) / count as f64
     };
     let counts = [engine_key, plain_key].map(|key| {
-        batch(key, 10);
-        (TURN / batch(key, 10)).ceil() as usize
+        batch(key, 100);
+        (TURN / batch(key, 100)).ceil() as usize
     });
     let (mut engine, mut plain) = (Vec::new(), Vec::new());
     for _ in 0..KEY_TURNS {
@@ -90,14 +126,17 @@ fn key_times(circuit: &Circuit) -> Answer<(f64, f64)> {
 
 /// Runs a program on a card file; what it prints.
 fn output(program: &[&str], input: &str) -> Answer<Vec<u8>> {
-    let ran = Command::new(program[0]).args(&program[1..]).stdin(File::open(input)?).output()?;
+    let ran = Command::new(program[0])
+        .args(&program[1..])
+        .stdin(File::open(input)?)
+        .output()?;
     if !ran.status.success() {
         return Err(format!("{program:?} ended with {}", ran.status).into());
     }
     Ok(ran.stdout)
 }
 
-/// Seconds of a program's run on a file.
+/// Runs a program on a file; the seconds on the clock.
 fn run_time(program: &[&str], input: &str) -> Answer<f64> {
     let mut command = Command::new(program[0]);
     command
@@ -114,7 +153,14 @@ fn run_time(program: &[&str], input: &str) -> Answer<f64> {
     Ok(taken)
 }
 
-/// Seconds for one step: the engine's and plain Rust's. Each turn is many steps less none, in a process.
+/// Processor seconds of a program's run on a file.
+fn processor_time(program: &[&str], input: &str) -> Answer<f64> {
+    let before = used_by(ENDED_PROGRAMS);
+    run_time(program, input)?;
+    Ok(used_by(ENDED_PROGRAMS) - before)
+}
+
+/// Processor seconds for one step: the engine's and plain Rust's. Each turn is many steps less none, in a process.
 fn step_times(steps: &str, plain: &str, count: &str, circuit: &Circuit) -> Answer<(f64, f64)> {
     let ours = [steps, count];
     let theirs = [plain, "steps", count];
@@ -124,10 +170,10 @@ fn step_times(steps: &str, plain: &str, count: &str, circuit: &Circuit) -> Answe
     let many: f64 = count.parse()?;
     let (mut engine, mut rust) = (Vec::new(), Vec::new());
     for _ in 0..STEP_TURNS {
-        let one = run_time(&ours, &circuit.cards)? - run_time(&[steps, "0"], &circuit.cards)?;
-        engine.push(one / many);
-        let one = run_time(&theirs, &circuit.cards)? - run_time(&[plain, "steps", "0"], &circuit.cards)?;
-        rust.push(one / many);
+        let none = processor_time(&[steps, "0"], &circuit.cards)?;
+        engine.push((processor_time(&ours, &circuit.cards)? - none) / many);
+        let none = processor_time(&[plain, "steps", "0"], &circuit.cards)?;
+        rust.push((processor_time(&theirs, &circuit.cards)? - none) / many);
     }
     Ok((median(engine), median(rust)))
 }
@@ -156,23 +202,40 @@ fn main() -> Answer<()> {
         })
         .collect();
     println!("load of the machine before: {}", load());
-    println!("\nmicroseconds, median      engine      plain   engine / plain");
+    println!("\nprocessor microseconds      engine      plain   engine / plain");
     let mut in_process = Vec::new();
     for circuit in &circuits {
         let (engine, plain) = key_times(circuit)?;
         in_process.push(engine);
-        line("whole key", circuit, engine * 1e6, plain * 1e6, engine / plain);
+        line(
+            "whole key",
+            circuit,
+            engine * 1e6,
+            plain * 1e6,
+            engine / plain,
+        );
     }
     for circuit in &circuits {
         let (engine, plain) = step_times(steps, plain, count, circuit)?;
-        line("one step", circuit, engine * 1e6, plain * 1e6, engine / plain);
+        line(
+            "one step",
+            circuit,
+            engine * 1e6,
+            plain * 1e6,
+            engine / plain,
+        );
     }
-    println!("\nmilliseconds, median         key    ngspice    ngspice / key   ngspice / whole key in process");
+    println!("\nmilliseconds of the clock    key    ngspice    ngspice / key   ngspice / whole key in process");
     for (circuit, whole) in circuits.iter().zip(in_process) {
         let (ours, theirs) = process_times(key, circuit)?;
         println!(
             "{:<10} {:>3} branches {:>9.2}  {:>9.2}  {:>15.1}  {:>31.0}",
-            "process", circuit.name, ours * 1e3, theirs * 1e3, theirs / ours, theirs / whole
+            "process",
+            circuit.name,
+            ours * 1e3,
+            theirs * 1e3,
+            theirs / ours,
+            theirs / whole
         );
     }
     println!("\nload of the machine after: {}", load());
@@ -180,5 +243,8 @@ fn main() -> Answer<()> {
 }
 
 fn line(what: &str, circuit: &Circuit, engine: f64, plain: f64, ratio: f64) {
-    println!("{what:<10} {:>3} branches {engine:>9.2}  {plain:>9.2}  {ratio:>15.2}", circuit.name);
+    println!(
+        "{what:<10} {:>3} branches {engine:>9.2}  {plain:>9.2}  {ratio:>15.2}",
+        circuit.name
+    );
 }

@@ -26,7 +26,10 @@ struct Field<'a> {
 
 impl Field<'_> {
     fn wrong(self, refusal: Refusal) -> Wrong {
-        Wrong { refusal, byte: self.byte }
+        Wrong {
+            refusal,
+            byte: self.byte,
+        }
     }
 }
 
@@ -53,10 +56,16 @@ impl<'a> Iterator for Fields<'a> {
         let rest = &self.line[self.at..];
         let start = rest.iter().position(|byte| *byte != b' ')?;
         let text = &rest[start..];
-        let length = text.iter().position(|byte| *byte == b' ').unwrap_or(text.len());
+        let length = text
+            .iter()
+            .position(|byte| *byte == b' ')
+            .unwrap_or(text.len());
         let byte = self.at + start + 1;
         self.at += start + length;
-        Some(Field { text: &text[..length], byte })
+        Some(Field {
+            text: &text[..length],
+            byte,
+        })
     }
 }
 
@@ -100,7 +109,11 @@ fn figure<N: Arithmetic>(field: Field, may_be_negative: bool) -> Result<N, Wrong
         }
     };
     // A minus before zero says nothing.
-    Ok(if unsigned.is_some() && top != 0 { size.negative() } else { size })
+    Ok(if unsigned.is_some() && top != 0 {
+        size.negative()
+    } else {
+        size
+    })
 }
 
 /// The card of a line; none where the line is skipped.
@@ -147,14 +160,29 @@ fn card<N: Arithmetic>(line: &[u8]) -> Result<Option<Placement<N>>, Wrong> {
 }
 
 /// Blanks the sheet and places the cards of a text on it, up to the first fault.
-pub fn read_cards<N: Arithmetic>(input: &[u8], plan: &mut Plan, rows: &mut [Row<N>]) -> Result<(), Fault> {
-    plan.blank(rows).map_err(|refusal| Fault { refusal, line: 0, byte: 0 })?;
+pub fn read_cards<N: Arithmetic>(
+    input: &[u8],
+    plan: &mut Plan,
+    rows: &mut [Row<N>],
+) -> Result<(), Fault> {
+    plan.blank(rows).map_err(|refusal| Fault {
+        refusal,
+        line: 0,
+        byte: 0,
+    })?;
     for (n, text) in input.split(|byte| *byte == b'\n').enumerate() {
         let line = n + 1;
-        let at = |Wrong { refusal, byte }| Fault { refusal, line, byte };
+        let at = |Wrong { refusal, byte }| Fault {
+            refusal,
+            line,
+            byte,
+        };
         if let Some(placement) = card(text).map_err(at)? {
-            plan.place(rows, placement)
-                .map_err(|refusal| Fault { refusal, line, byte: 1 })?;
+            plan.place(rows, placement).map_err(|refusal| Fault {
+                refusal,
+                line,
+                byte: 1,
+            })?;
         }
     }
     Ok(())

@@ -60,7 +60,10 @@ pub fn tree(plan: &Plan) -> Result<u32, Refusal> {
         for (_, branch) in branches_of(plan, !currents) {
             pieces.join(branch);
         }
-        return Err(Refusal::CurrentCut(cut_of(plan, pieces.0[branch.tail as usize])));
+        return Err(Refusal::CurrentCut(cut_of(
+            plan,
+            pieces.0[branch.tail as usize],
+        )));
     }
     Ok(kept)
 }

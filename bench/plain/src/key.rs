@@ -41,7 +41,8 @@ impl Text {
                 break;
             }
         }
-        self.0.extend(digits[at..].iter().map(|digit| char::from(*digit)));
+        self.0
+            .extend(digits[at..].iter().map(|digit| char::from(*digit)));
     }
 
     fn named(&mut self, name: &str, k: usize) {
@@ -65,7 +66,11 @@ impl Text {
     fn stop(&mut self, stop: Stop) {
         match stop {
             Stop::Refused(refusal) => self.refusal(refusal),
-            Stop::Faulty(Fault { refusal, line, byte }) => {
+            Stop::Faulty(Fault {
+                refusal,
+                line,
+                byte,
+            }) => {
                 self.refusal(refusal);
                 self.named(" line ", line);
                 self.named(" byte ", byte);
@@ -130,7 +135,12 @@ impl From<Fault> for Stop {
     }
 }
 
-fn push_network(text: &mut Text, input: &[u8], plan: &mut Plan, rows: &mut [Row<f64>; PLACES]) -> Result<(), Stop> {
+fn push_network(
+    text: &mut Text,
+    input: &[u8],
+    plan: &mut Plan,
+    rows: &mut [Row<f64>; PLACES],
+) -> Result<(), Stop> {
     if input.len() > LONGEST {
         return Err(Refusal::InputTooLong.into());
     }

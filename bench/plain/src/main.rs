@@ -13,7 +13,12 @@ use std::process::ExitCode;
 fn steps(count: u32, cards: &[u8]) -> String {
     let (mut plan, mut rows) = (Plan::EMPTY, fresh_rows::<f64>());
     if let Err(fault) = read_cards(cards, &mut plan, &mut rows) {
-        return format!("refused {} line {} byte {}\n", fault.refusal.number(), fault.line, fault.byte);
+        return format!(
+            "refused {} line {} byte {}\n",
+            fault.refusal.number(),
+            fault.line,
+            fault.byte
+        );
     }
     let mut area = [0.0; AREA];
     for _ in 0..count {
@@ -24,7 +29,11 @@ fn steps(count: u32, cards: &[u8]) -> String {
     let mut text = String::new();
     for (k, row) in rows.iter().enumerate() {
         if plan.branches[k].is_some() {
-            text += &format!("row {k} {:016x} {:016x}\n", row.current.to_bits(), row.voltage.to_bits());
+            text += &format!(
+                "row {k} {:016x} {:016x}\n",
+                row.current.to_bits(),
+                row.voltage.to_bits()
+            );
         }
     }
     text
@@ -48,5 +57,9 @@ fn main() -> io::Result<ExitCode> {
         _ => ("usage: plain key|steps N|check < FILE\n".to_string(), false),
     };
     io::stdout().write_all(text.as_bytes())?;
-    Ok(if is_well { ExitCode::SUCCESS } else { ExitCode::FAILURE })
+    Ok(if is_well {
+        ExitCode::SUCCESS
+    } else {
+        ExitCode::FAILURE
+    })
 }

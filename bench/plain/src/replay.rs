@@ -64,7 +64,12 @@ fn answer(result: Result<(), Refusal>) -> String {
         Ok(()) => "ok".to_string(),
         Err(refusal) => match refusal.shown() {
             None => format!("refused {}", refusal.number()),
-            Some(shown) => format!("refused {} {:08x} {:08x}", refusal.number(), shown.members, shown.against),
+            Some(shown) => format!(
+                "refused {} {:08x} {:08x}",
+                refusal.number(),
+                shown.members,
+                shown.against
+            ),
         },
     }
 }
@@ -96,7 +101,17 @@ fn call<N: Figure>(line: &str, plan: &mut Plan, own: &mut [Row<N>]) -> Option<Re
             let (number, kind, tail, head) = (next()?, next()?, next()?, next()?);
             let (value, start) = (N::read(words.next()?)?, N::read(words.next()?)?);
             let kind = Kind::of_number(kind);
-            plan.place(rows, Placement { number, kind, tail, head, value, start })
+            plan.place(
+                rows,
+                Placement {
+                    number,
+                    kind,
+                    tail,
+                    head,
+                    value,
+                    start,
+                },
+            )
         }
         "set" => {
             let number = next()?;
@@ -111,7 +126,10 @@ fn call<N: Figure>(line: &str, plan: &mut Plan, own: &mut [Row<N>]) -> Option<Re
     })
 }
 
-fn story<N: Figure>(stream: &mut Stream, reading: impl Fn(N) -> Option<String>) -> Result<(), String> {
+fn story<N: Figure>(
+    stream: &mut Stream,
+    reading: impl Fn(N) -> Option<String>,
+) -> Result<(), String> {
     let (mut plan, mut rows) = (Plan::EMPTY, fresh_rows::<N>());
     while let Some(line) = stream.peek() {
         let name = line.split(' ').next().unwrap_or("");
@@ -122,7 +140,11 @@ fn story<N: Figure>(stream: &mut Stream, reading: impl Fn(N) -> Option<String>) 
         match name {
             "slip" | "trace" => continue,
             "reading" => {
-                let k = line.split(' ').nth(1).and_then(|word| word.parse::<usize>().ok()).ok_or("malformed")?;
+                let k = line
+                    .split(' ')
+                    .nth(1)
+                    .and_then(|word| word.parse::<usize>().ok())
+                    .ok_or("malformed")?;
                 let found = reading(rows[k].voltage).ok_or("a reading in remainders")?;
                 same(line, &format!("reading {k} {found}"))?;
                 continue;
@@ -153,7 +175,10 @@ fn replay(stream: &mut Stream) -> Result<(u32, u32), String> {
             (Some("file"), length) => {
                 let length = number(length).ok_or("malformed")? as usize;
                 let file = stream.bytes(length).ok_or("cut off")?;
-                let length = stream.line().and_then(|line| number(line.strip_prefix("key "))).ok_or("no key")?;
+                let length = stream
+                    .line()
+                    .and_then(|line| number(line.strip_prefix("key ")))
+                    .ok_or("no key")?;
                 let key = stream.bytes(length as usize).ok_or("cut off")?;
                 same(&String::from_utf8_lossy(key), &whole_key(file))?;
                 files += 1;
@@ -178,9 +203,15 @@ fn replay(stream: &mut Stream) -> Result<(u32, u32), String> {
 
 /// What a replay comes to, and whether it found no difference.
 pub fn check(stream: &[u8]) -> (String, bool) {
-    let mut stream = Stream { rest: stream, lines: 0 };
+    let mut stream = Stream {
+        rest: stream,
+        lines: 0,
+    };
     match replay(&mut stream) {
-        Ok((files, stories)) => (format!("{files} files, {stories} stories, no difference"), true),
+        Ok((files, stories)) => (
+            format!("{files} files, {stories} stories, no difference"),
+            true,
+        ),
         Err(stop) => (format!("line {}: {stop}", stream.lines), false),
     }
 }

@@ -104,13 +104,23 @@ impl Plan {
         Ok(())
     }
 
-    pub fn place<N: Arithmetic>(&mut self, rows: &mut [Row<N>], placement: Placement<N>) -> Result<(), Refusal> {
+    pub fn place<N: Arithmetic>(
+        &mut self,
+        rows: &mut [Row<N>],
+        placement: Placement<N>,
+    ) -> Result<(), Refusal> {
         let rows = table(rows)?;
         let k = place_of(placement.number)?;
         if self.branches[k].is_some() {
             return Err(Refusal::PlaceTaken);
         }
-        let Placement { tail, head, value, start, .. } = placement;
+        let Placement {
+            tail,
+            head,
+            value,
+            start,
+            ..
+        } = placement;
         let kind = placement.kind.ok_or(Refusal::NoSuchKind)?;
         if tail > 15 || head > 15 {
             return Err(Refusal::NoSuchNode);
@@ -132,8 +142,16 @@ impl Plan {
         rows[k] = Row {
             value,
             start,
-            current: if kind == Kind::Inductor { start } else { N::ZERO },
-            voltage: if kind == Kind::Capacitor { start } else { N::ZERO },
+            current: if kind == Kind::Inductor {
+                start
+            } else {
+                N::ZERO
+            },
+            voltage: if kind == Kind::Capacitor {
+                start
+            } else {
+                N::ZERO
+            },
         };
         Ok(())
     }
@@ -146,7 +164,12 @@ impl Plan {
         Ok(())
     }
 
-    pub fn set<N: Arithmetic>(&self, rows: &mut [Row<N>], number: u32, value: N) -> Result<(), Refusal> {
+    pub fn set<N: Arithmetic>(
+        &self,
+        rows: &mut [Row<N>],
+        number: u32,
+        value: N,
+    ) -> Result<(), Refusal> {
         let rows = table(rows)?;
         let k = place_of(number)?;
         let branch = self.branches[k].ok_or(Refusal::PlaceEmpty)?;

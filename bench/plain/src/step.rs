@@ -87,7 +87,11 @@ fn advance<N: Arithmetic>(
     h: N,
     parts: Parts<N>,
 ) -> Result<(), Refusal> {
-    let Parts { conductances, offsets, system } = parts;
+    let Parts {
+        conductances,
+        offsets,
+        system,
+    } = parts;
     let mut passive = 0;
     let mut voltage_sources = 0;
     for (k, branch) in plan.branches.iter().enumerate() {
@@ -121,13 +125,19 @@ fn advance<N: Arithmetic>(
         let cut = network.rows[t];
         for (entry, r) in entries.iter_mut().zip(Members(unknowns)) {
             let both = agreement(cut, network.rows[r]);
-            *entry = gather(N::ZERO, both.members & passive, both.against, |k| conductances[k]);
+            *entry = gather(N::ZERO, both.members & passive, both.against, |k| {
+                conductances[k]
+            });
         }
-        let mut right = gather(N::ZERO, cut.members & !voltage_sources, !cut.against, |k| offsets[k]);
+        let mut right = gather(N::ZERO, cut.members & !voltage_sources, !cut.against, |k| {
+            offsets[k]
+        });
         for v in Members(voltage_sources) {
             let both = agreement(cut, network.rows[v]);
             let level = rows[v].value;
-            right = gather(right, both.members & passive, !both.against, |k| conductances[k].product(level));
+            right = gather(right, both.members & passive, !both.against, |k| {
+                conductances[k].product(level)
+            });
         }
         entries[n] = right;
     }
@@ -146,7 +156,9 @@ fn advance<N: Arithmetic>(
     for k in Members(network.links) {
         // The loop row of a link has its entries in the cut rows, with the other sign.
         let row = network.rows[k];
-        voltages[k] = gather(N::ZERO, row.members & network.tree, !row.against, |t| voltages[t]);
+        voltages[k] = gather(N::ZERO, row.members & network.tree, !row.against, |t| {
+            voltages[t]
+        });
     }
     for k in Members(placed & !voltage_sources) {
         currents[k] = if has(passive, k) {
@@ -157,7 +169,9 @@ fn advance<N: Arithmetic>(
     }
     for v in Members(voltage_sources) {
         let cut = network.rows[v];
-        currents[v] = gather(N::ZERO, cut.members & network.links, !cut.against, |k| currents[k]);
+        currents[v] = gather(N::ZERO, cut.members & network.links, !cut.against, |k| {
+            currents[k]
+        });
     }
     if Members(placed).any(|k| !currents[k].is_sound() || !voltages[k].is_sound()) {
         return Err(Refusal::UnsoundResult);
@@ -170,7 +184,12 @@ fn advance<N: Arithmetic>(
 }
 
 /// Moves a sheet on by one time step of length h.
-pub fn step<N: Arithmetic>(plan: &Plan, rows: &mut [Row<N>], h: N, work: &mut [N]) -> Result<(), Refusal> {
+pub fn step<N: Arithmetic>(
+    plan: &Plan,
+    rows: &mut [Row<N>],
+    h: N,
+    work: &mut [N],
+) -> Result<(), Refusal> {
     let rows = rows.try_into().map_err(|_| Refusal::WrongLength)?;
     let area = work.first_chunk_mut::<AREA>().ok_or(Refusal::WrongLength)?;
     if !h.is_sound() || !h.may_divide() {
