@@ -15,9 +15,10 @@ import tempfile
 
 import engine
 
-# A figure may differ by this share of the largest of its kind: of all branches, of the companion network's sources, and,
-# for voltages, of those sources times the resistance beside them.
-CLOSE = 1e-10
+# A figure may differ by this share of the largest of its kind in the circuit so far. Voltages are those of all branches,
+# and of the companion networks' sources times the resistance beside them; currents are those of all branches and sources,
+# and what the largest voltage would drive through the least resistance.
+CLOSE = 1e-11
 
 LETTER = {engine.R: "R", engine.L: "L", engine.C: "C", engine.V: "V", engine.I: "I"}
 
@@ -88,14 +89,14 @@ def solved(branches, h):
         file.write(netlist(branches, h, True))
         file.flush()
         ran = subprocess.run(["ngspice", "-b", file.name], capture_output=True, text=True, timeout=60)
-    found = {}
+    found = {"v(0)": 0.0}
     for line in ran.stdout.splitlines():
         name, equals, figure = line.partition(" = ")
         if equals and name.startswith(("v(", "i(", "@r")):
             found[name] = float(figure)
     currents, voltages = {}, {}
     for b in branches:
-        voltages[b.place] = found.get("v(%d)" % b.tail, 0.0) - found.get("v(%d)" % b.head, 0.0)
+        voltages[b.place] = found["v(%d)" % b.tail] - found["v(%d)" % b.head]
         if b.letter == "I":
             currents[b.place] = b.value
         elif b.letter == "V":
@@ -174,11 +175,10 @@ def stepped(command, cards, count):
     return currents, voltages
 
 
-def farthest(found, expected, scale):
+def farthest(found, expected, largest):
     """The greatest difference as a share of the largest figure, and its place."""
     if sorted(found) != sorted(expected):
         raise ValueError("other branches: %s and %s" % (sorted(found), sorted(expected)))
-    largest = max(map(abs, [*scale, *expected.values()]))
     place = max(expected, key=lambda k: abs(found[k] - expected[k]))
     gap = abs(found[place] - expected[place])
     return (gap / largest if largest else gap), place
@@ -201,6 +201,7 @@ class Counts:
 def compare(command, cards, steps, counts):
     """Compares some steps in a row; answers what differs, or None."""
     branches = branches_of(cards)
+    amperes = volts = 0.0
     for n in range(1, steps + 1):
         printed = stepped(command, cards, n)
         if isinstance(printed, int):
@@ -210,9 +211,12 @@ def compare(command, cards, steps, counts):
             return None
         expected = solved(branches, 1.0)
         beside = [companion(b, 1.0) for b in branches if b.letter in "RLC"]
-        scales = [[source for _, source in beside], [source * resistance for resistance, source in beside]]
-        for name, found, wanted, scale in zip(("current", "voltage"), printed, expected, scales):
-            share, place = farthest(found, wanted, scale)
+        voltages = [source * resistance for resistance, source in beside] + list(expected[1].values())
+        volts = max(volts, *map(abs, voltages))
+        currents = [source for _, source in beside] + list(expected[0].values())
+        amperes = max(amperes, *map(abs, currents), *(volts / resistance for resistance, _ in beside))
+        for name, found, wanted, largest in zip(("current", "voltage"), printed, expected, (amperes, volts)):
+            share, place = farthest(found, wanted, largest)
             counts.worst = max(counts.worst, share)
             if not share <= CLOSE:
                 return "step %d, %s of %d: engine %r, ngspice %r" % (n, name, place, found[place], wanted[place])

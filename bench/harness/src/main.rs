@@ -1,9 +1,9 @@
 //! Measures the engine beside plain Rust and ngspice, in one run and by turns. `bench/run` builds it and calls it as
 //!
-//!     harness KEY STEPS PLAIN COUNT NAME CARDS NETLIST [NAME CARDS NETLIST]..
+//!     harness KEY STEPS PLAIN COUNT EXAMPLES NAME CARDS NETLIST [NAME CARDS NETLIST]..
 //!
-//! with the programs `key`, `steps` and `plain`, how many steps are taken, and for each circuit its name, its card file
-//! and the companion network of one step of it.
+//! with the programs `key`, `steps` and `plain`, how many steps are taken, a folder of card files on which the two keys
+//! are compared first, and for each circuit its name, its card file and the companion network of one step of it.
 
 use std::error::Error;
 use std::fs::{self, File};
@@ -93,17 +93,21 @@ fn load() -> String {
     load.split(' ').take(3).collect::<Vec<_>>().join(" ")
 }
 
+/// The engine and plain Rust make the same key of a card file.
+fn compare_keys(cards: &[u8]) -> Answer<()> {
+    let (mut ours, mut theirs) = ([0; 8192], [0; 8192]);
+    let a = engine_key(cards, &mut ours);
+    let b = plain_key(cards, &mut theirs);
+    if ours.get(..a) != theirs.get(..b) {
+        return Err(format!("the keys differ: {}", String::from_utf8_lossy(cards)).into());
+    }
+    Ok(())
+}
+
 /// Processor seconds for one whole key in this process: the engine's and plain Rust's.
 fn key_times(circuit: &Circuit) -> Answer<(f64, f64)> {
     let cards = fs::read(&circuit.cards)?;
-    let (mut ours, mut theirs) = ([0; 8192], [0; 8192]);
-    let (a, b) = (
-        engine_key(&cards, &mut ours),
-        plain_key(&cards, &mut theirs),
-    );
-    if ours.get(..a) != theirs.get(..b) {
-        return Err("the keys differ".into());
-    }
+    compare_keys(&cards)?;
     let batch = |key: fn(&[u8], &mut [u8]) -> usize, count: usize| {
         let mut buffer = [0; 8192];
         let before = used_by(THIS_PROCESS);
@@ -190,8 +194,8 @@ fn process_times(key: &str, circuit: &Circuit) -> Answer<(f64, f64)> {
 
 fn main() -> Answer<()> {
     let words: Vec<String> = std::env::args().skip(1).collect();
-    let [key, steps, plain, count, rest @ ..] = &words[..] else {
-        return Err("usage: harness KEY STEPS PLAIN COUNT NAME CARDS NETLIST ..".into());
+    let [key, steps, plain, count, examples, rest @ ..] = &words[..] else {
+        return Err("usage: harness KEY STEPS PLAIN COUNT EXAMPLES NAME CARDS NETLIST ..".into());
     };
     let circuits: Vec<Circuit> = rest
         .chunks_exact(3)
@@ -201,6 +205,12 @@ fn main() -> Answer<()> {
             netlist: words[2].clone(),
         })
         .collect();
+    let mut compared = 0;
+    for file in fs::read_dir(examples)? {
+        compare_keys(&fs::read(file?.path())?)?;
+        compared += 1;
+    }
+    println!("{compared} examples, no difference");
     println!("load of the machine before: {}", load());
     println!("\nprocessor microseconds      engine      plain   engine / plain");
     let mut in_process = Vec::new();
