@@ -159,9 +159,14 @@ fn run_time(program: &[&str], input: &str) -> Answer<f64> {
 
 /// Processor seconds of a program's run on a file.
 fn processor_time(program: &[&str], input: &str) -> Answer<f64> {
+    Ok(both_times(program, input)?.1)
+}
+
+/// Seconds of a program's run on a file: on the clock, and of the processor.
+fn both_times(program: &[&str], input: &str) -> Answer<(f64, f64)> {
     let before = used_by(ENDED_PROGRAMS);
-    run_time(program, input)?;
-    Ok(used_by(ENDED_PROGRAMS) - before)
+    let clock = run_time(program, input)?;
+    Ok((clock, used_by(ENDED_PROGRAMS) - before))
 }
 
 /// Processor seconds for one step: the engine's and plain Rust's. Each turn is many steps less none, in a process.
@@ -182,14 +187,20 @@ fn step_times(steps: &str, plain: &str, count: &str, circuit: &Circuit) -> Answe
     Ok((median(engine), median(rust)))
 }
 
-/// Seconds for a run of `key` and for one of ngspice.
-fn process_times(key: &str, circuit: &Circuit) -> Answer<(f64, f64)> {
+/// Seconds for a run of `key` and for one of ngspice: on the clock, and of the processor.
+fn process_times(key: &str, circuit: &Circuit) -> Answer<[(f64, f64); 2]> {
     let (mut ours, mut theirs) = (Vec::new(), Vec::new());
     for _ in 0..PROCESS_TURNS {
-        ours.push(run_time(&[key], &circuit.cards)?);
-        theirs.push(run_time(&["ngspice", "-b", &circuit.netlist], "/dev/null")?);
+        ours.push(both_times(&[key], &circuit.cards)?);
+        theirs.push(both_times(
+            &["ngspice", "-b", &circuit.netlist],
+            "/dev/null",
+        )?);
     }
-    Ok((median(ours), median(theirs)))
+    Ok([ours, theirs].map(|times| {
+        let (clock, processor) = times.into_iter().unzip();
+        (median(clock), median(processor))
+    }))
 }
 
 fn main() -> Answer<()> {
@@ -212,7 +223,7 @@ fn main() -> Answer<()> {
     }
     println!("{compared} examples, no difference");
     println!("load of the machine before: {}", load());
-    println!("\nprocessor microseconds      engine      plain   engine / plain");
+    println!("\nprocessor microseconds       engine      plain   engine / plain");
     let mut in_process = Vec::new();
     for circuit in &circuits {
         let (engine, plain) = key_times(circuit)?;
@@ -235,17 +246,32 @@ fn main() -> Answer<()> {
             engine / plain,
         );
     }
-    println!("\nmilliseconds of the clock    key    ngspice    ngspice / key   ngspice / whole key in process");
-    for (circuit, whole) in circuits.iter().zip(in_process) {
-        let (ours, theirs) = process_times(key, circuit)?;
+    println!("\nmilliseconds of a run           key    ngspice    ngspice / key");
+    let mut runs = Vec::new();
+    for circuit in &circuits {
+        let [ours, theirs] = process_times(key, circuit)?;
+        line(
+            "on the clock",
+            circuit,
+            ours.0 * 1e3,
+            theirs.0 * 1e3,
+            theirs.0 / ours.0,
+        );
+        line(
+            "processor",
+            circuit,
+            ours.1 * 1e3,
+            theirs.1 * 1e3,
+            theirs.1 / ours.1,
+        );
+        runs.push(theirs.1);
+    }
+    println!("\nprocessor time of a run of ngspice / of a whole key in process");
+    for (circuit, (run, whole)) in circuits.iter().zip(runs.iter().zip(in_process)) {
         println!(
-            "{:<10} {:>3} branches {:>9.2}  {:>9.2}  {:>15.1}  {:>31.0}",
-            "process",
+            "             {:>3} branches {:>9.0}",
             circuit.name,
-            ours * 1e3,
-            theirs * 1e3,
-            theirs / ours,
-            theirs / whole
+            run / whole
         );
     }
     println!("\nload of the machine after: {}", load());
@@ -254,7 +280,7 @@ fn main() -> Answer<()> {
 
 fn line(what: &str, circuit: &Circuit, engine: f64, plain: f64, ratio: f64) {
     println!(
-        "{what:<10} {:>3} branches {engine:>9.2}  {plain:>9.2}  {ratio:>15.2}",
+        "{what:<12} {:>3} branches {engine:>9.2}  {plain:>9.2}  {ratio:>15.2}",
         circuit.name
     );
 }
