@@ -1,10 +1,9 @@
 """Runs a program on fresh card files and compares what it prints with the reference, byte by byte.
 
-    python3 reference/check.py --seed 7 --count 500 --trees -- ./key
+    python3 reference/check.py --seed 7 --count 500 -- ./key
 
-The program reads a card file from standard input, prints its key, and ends with status 0. `--trees` compares tree, loop
-and cut lines alone, for a program that does not print the figures of a step. The check stops at
-the first difference and prints the seed and the file.
+The program reads a card file from standard input, prints its key, and ends with status 0. The check
+stops at the first difference and prints the seed and the file.
 """
 
 import argparse
@@ -15,19 +14,6 @@ import time
 
 from engine import printed_key
 from generate import FIXED_FILES, card_file
-
-
-def cut_off(printed):
-    """The lines of a key before those of the steps, for a program that may or may not print the latter."""
-    lines = printed.splitlines(keepends=True)
-    if not lines or not lines[0].startswith(b"tree"):
-        return printed
-    kept = []
-    for line in lines:
-        if not line.startswith((b"tree", b"loop", b"cut")):
-            break
-        kept.append(line)
-    return b"".join(kept)
 
 
 def run(command, data):
@@ -41,7 +27,6 @@ def main():
     parser = argparse.ArgumentParser(description="Compares a program's keys with the reference.")
     parser.add_argument("--seed", default=str(int(time.time())), help="by default a fresh one")
     parser.add_argument("--count", type=int, default=300)
-    parser.add_argument("--trees", action="store_true", help="compare tree, loop and cut lines alone")
     parser.add_argument("command", nargs="+", help="the program and its arguments, after --")
     options = parser.parse_args()
     print("seed %s" % options.seed)
@@ -53,9 +38,9 @@ def main():
         else:
             name = "%s %d" % (options.seed, n - len(files))
             data = card_file(name)
-        expected = printed_key(data, steps=not options.trees)
+        expected = printed_key(data)
         ran = run(options.command, data)
-        printed = cut_off(ran.stdout) if options.trees else ran.stdout
+        printed = ran.stdout
         if ran.returncode != 0 or printed != expected:
             print("DIFFERENCE at file %s (seed %s, count so far %d), status %d" % (name, options.seed, n, ran.returncode))
             print("file: %r" % data)
