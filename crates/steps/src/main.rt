@@ -39,10 +39,7 @@ fn show_rows(rt: &HostRuntime, plan: &Plan, rows: &[Row<f64>]) -> anyhow::Result
 fn show_steps(rt: &HostRuntime, cards: &[u8], steps: u32) -> anyhow::Result<()> {
     let (mut plan, mut rows) = (Plan::empty(), fresh_rows::<f64>());
     if let Err(fault) = read_cards(cards, &mut plan, &mut rows) {
-        println!(rt;
-            "refused {} line {} byte {}",
-            fault.refusal, fault.line, fault.byte
-        )?;
+        println!(rt; "refused {fault}")?;
         return Ok(());
     }
     match take_steps(&plan, &mut rows, steps) {
