@@ -4,6 +4,7 @@
 -- circuit_lines    those of a sheet that was read, or the refusal of its tree
 -- lines_by         of a card file: 25 for more than 4,096 bytes, a fault of the cards, or the circuit's lines
 -- lines_read       of a circuit that was read with its tree, or of what stood in its way
+-- tree_by          the tree of a plan, or the refusal of the fault
 -- tree_of_read     the tree of a sheet that was read, or the refusal that stands in its way
 -- circuit_tree     of a card file: 25 for more than 4,096 bytes, the refusal of a fault, or the answer of the circuit's tree
 -- tree_read        of a circuit that was read with its tree, or of what stood in its way
