@@ -10,7 +10,7 @@ const NUMBER_DIGITS: usize = 6;
 // The most digits of a value's or a start's whole numbers: another rule than that of numbers, with the same limit today.
 const VALUE_DIGITS: usize = 6;
 
-// The number that the digits write, at least one and at most so many.
+// The number that the digits write, at least one and at most so many. The library's `parse` takes a plus too.
 fn digits(text: &[u8], most: usize) -> Option<u64>
     requires { most ≤ 10 }
     ensures { result ≡ plain most text.now }

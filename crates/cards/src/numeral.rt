@@ -1,4 +1,5 @@
-// A numeral: a whole number over another, with or without a minus. The minus is the sign of the number beside its size.
+// A numeral: a whole number over another, with or without a minus. A signed number would be taken apart again, since `whole`
+// takes the size alone.
 #[derive(Clone, Copy)]
 pub(crate) struct Numeral {
     pub(crate) minus: bool,

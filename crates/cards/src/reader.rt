@@ -9,7 +9,7 @@ pub(crate) struct Line<'a> {
 }
 
 // How far a text is read: at which byte the next line begins, past the end once the last line is read, and how many
-// lines are read.
+// lines are read. Tried: the library's `split`; no invariant can be stated over an iterator that holds a closure.
 #[derive(Drop)]
 pub(crate) struct Reader<'a> {
     pub(crate) input: &'a [u8],

@@ -20,7 +20,7 @@ pub fn three_entries() -> [i8; 32] {
     entries
 }
 
-// Whether a part of an area is that byte throughout.
+// Whether a part of an area is that byte throughout. Figures of steps are compared by their bits instead.
 pub fn all_are(part: &[u8], byte: u8) -> bool {
     part.iter().all(|b| *b == byte)
 }

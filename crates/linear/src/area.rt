@@ -12,18 +12,14 @@ const WIDTH: usize = 16;
 pub fn get<N: Arithmetic>(area: &[N], place: usize) -> N
     ensures { N.mean result ≡ slice_index_or (map N.mean area.now) place N.ops.nought }
 {
-    if place < area.len() {
-        area[place]
-    } else {
-        N::zero()
-    }
+    area.get(place).copied().unwrap_or(N::zero())
 }
 
 pub fn put<N: Arithmetic>(area: &mut [N], place: usize, value: N)
     ensures { map N.mean area.new ≡ slice_set (map N.mean area.old) place (N.mean value) }
 {
-    if place < area.len() {
-        area[place] = value;
+    if let Some(entry) = area.get_mut(place) {
+        *entry = value;
     }
 }
 

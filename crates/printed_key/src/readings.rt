@@ -27,6 +27,7 @@ fn reading_at(plan: &Plan, rows: &[Row<f64>], k: u32) -> Result<Option<i32>, Ref
 fn readings(plan: &Plan, rows: &[Row<f64>]) -> Result<[Option<i32>; 32], Refusal>
     ensures { told result ≡ readings_below plan.now rows.now 32 }
 {
+    // Not by the library's `try_from_fn`, whose clause does not tie what a call saw to what the closure holds.
     let mut readings = [None; 32];
     for (k, reading) in readings.iter_mut().enumerate() {
         *reading = reading_at(plan, rows, k as u32)?;

@@ -4,7 +4,7 @@ use printed_key::whole_key;
 use std::fs;
 
 // A file for each refusal that a card file can meet, named by its number.
-const CARD_FILES: [&str; 14] = [
+const CARD_FILES: &[&str] = &[
     "02.cards", "03.cards", "06.cards", "07.cards", "08.cards", "12.cards", "13.cards", "14.cards",
     "18.cards", "21.cards", "22.cards", "23.cards", "24.cards", "25.cards",
 ];

@@ -1,12 +1,12 @@
 // The smallest calls on a sheet that are refused. Each sheet is a blank one.
 use crate::answer::show_answer;
-use sheet::{Placement, Plan, Refusal, fresh_rows};
+use sheet::{Kind, Placement, Plan, Refusal, fresh_rows};
 
 // A resistor of 2 ohms at place 0, from node 1 to node 0, which a blank sheet takes.
 fn resistor() -> Placement<f64> {
     Placement {
         number: 0,
-        kind: 1,
+        kind: Kind::Resistor.into(),
         tail: 1,
         head: 0,
         value: 2.0,

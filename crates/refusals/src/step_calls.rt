@@ -1,6 +1,6 @@
 // The smallest steps that are refused.
 use crate::answer::show_answer;
-use sheet::{Placement, Plan, Refusal, fresh_rows};
+use sheet::{Kind, Placement, Plan, Refusal, fresh_rows};
 use stepping::step;
 
 fn step_without_a_work_area() -> Result<(), Refusal> {
@@ -15,7 +15,7 @@ fn step_of_length_zero() -> Result<(), Refusal> {
 fn coil() -> Placement<f64> {
     Placement {
         number: 0,
-        kind: 2,
+        kind: Kind::Inductor.into(),
         tail: 1,
         head: 0,
         value: 1e200,

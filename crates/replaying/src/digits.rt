@@ -9,7 +9,7 @@ fn hexadecimal_digit(byte: u8) -> Option<u64> {
     }
 }
 
-// The number that decimal digits write, if there are any and it is not too large.
+// The number that decimal digits write, if there are any and it is not too large. The library's `parse` takes a plus too.
 pub(crate) fn decimal(text: &[u8]) -> Option<u32> {
     if text.is_empty() {
         return None;

@@ -23,6 +23,7 @@ fn replay_part(
 
 // Every part up to the line `end`, after which nothing may come.
 fn replay_parts(heap: Global, stream: &mut Stream, progress: &mut Progress) -> Result<(), Stop> {
+    // Counted by what is left, as the calls of a story are.
     for _ in 0..stream.left() {
         let line = stream.line().ok_or(Stop::Unreadable)?;
         if line == b"end".as_slice() {

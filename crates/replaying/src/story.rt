@@ -56,6 +56,7 @@ fn replay_calls<N: Arithmetic + Figure, F: FnMut(bool, &Sheet<N>)>(
 ) -> Result<(), Stop>
     requires { F.IsAlwaysCallable after }
 {
+    // Counted by what is left, since no contract says that a line shortens it: that would be no plainer.
     for _ in 0..stream.left() {
         if stream.is_at(b"slip ") {
             break;

@@ -1,7 +1,7 @@
 // Reading a stream line by line.
 const LINE_END: u8 = b'\n';
 
-// What is left to be read of a stream, and how many lines are read.
+// What is left to be read of a stream, and how many lines are read, which a difference is told with.
 #[derive(Drop)]
 pub(crate) struct Stream<'a> {
     rest: &'a [u8],

@@ -4,7 +4,8 @@ use crate::figure::Figure;
 
 const SPACE: u8 = b' ';
 
-// What is left of a line; nothing once its last word is read.
+// What is left of a line; nothing once its last word is read. The library's `split` would be no plainer here: it holds a
+// closure, whose type this struct would carry.
 #[derive(Drop)]
 pub(crate) struct Words<'a> {
     rest: Option<&'a [u8]>,

@@ -8,7 +8,7 @@ use crate::plan::Plan;
 use crate::row::Row;
 use arithmetic::Arithmetic;
 
-// A branch as a look shows it: its kind, its ends and the four values of its row.
+// A branch as a look shows it: its kind, its ends and the four values of its row, plain, since callers take it apart.
 #[derive(Clone, Copy)]
 pub struct Look<N> {
     pub kind: Kind,

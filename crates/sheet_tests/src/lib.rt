@@ -2,7 +2,7 @@
 #![tactic(auto)]
 
 use arithmetic::Arithmetic;
-use sheet::{Placement, Plan, Refusal, Row};
+use sheet::{Placement, Plan, Refusal, Row, fresh_rows};
 
 #[cfg(test)]
 mod tests;
@@ -31,32 +31,22 @@ pub fn placed_on<N: Arithmetic>(rows: &mut [Row<N>], placement: Placement<N>) ->
     number_of(plan.place(rows, placement))
 }
 
-// What placing answers in binary64 on a blank sheet with 32 rows.
-pub fn placed(number: u32, kind: u32, tail: u32, head: u32, value: f64, start: f64) -> u32 {
-    let mut rows = [row_of(0.0); 32];
-    placed_on::<f64>(
-        &mut rows,
+// What placing answers on a blank sheet with 32 rows.
+pub fn placed<N: Arithmetic>(
+    number: u32,
+    kind: u32,
+    tail: u32,
+    head: u32,
+    value: N,
+    start: N,
+) -> u32 {
+    placed_on(
+        &mut fresh_rows(),
         Placement {
             number,
             kind,
             tail,
             head,
-            value,
-            start,
-        },
-    )
-}
-
-// What placing a branch from node 1 to node 0 answers among the remainders.
-pub fn placed_residue(kind: u32, value: u16, start: u16) -> u32 {
-    let mut rows = [row_of(0); 32];
-    placed_on::<u16>(
-        &mut rows,
-        Placement {
-            number: 0,
-            kind,
-            tail: 1,
-            head: 0,
             value,
             start,
         },

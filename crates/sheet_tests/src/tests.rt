@@ -1,4 +1,4 @@
-use crate::{number_of, placed, placed_on, placed_residue, row_of};
+use crate::{number_of, placed, placed_on, row_of};
 use sheet::{Kind, Placement, Plan};
 use std::test::Fail;
 
@@ -56,9 +56,9 @@ fn numbers(rt: HostRuntime) {
         (0, RESISTOR, 3, 3, 7),
     ];
     for (number, kind, tail, head, expected) in table {
-        assert_eq!(rt; placed(number, kind, tail, head, 2.0, 0.0), expected);
+        assert_eq!(rt; placed::<f64>(number, kind, tail, head, 2.0, 0.0), expected);
     }
-    assert_eq!(rt; placed(0, RESISTOR, 3, 3, 0.0, 1.0), 7);
+    assert_eq!(rt; placed::<f64>(0, RESISTOR, 3, 3, 0.0, 1.0), 7);
 }
 
 // Values and starts in binary64.
@@ -80,7 +80,7 @@ fn values(rt: HostRuntime) {
         (CAPACITOR, 2.0, -3.0, 0),
     ];
     for (kind, value, start, expected) in table {
-        assert_eq!(rt; placed(0, kind, 1, 0, value, start), expected);
+        assert_eq!(rt; placed::<f64>(0, kind, 1, 0, value, start), expected);
     }
 }
 
@@ -95,7 +95,7 @@ fn remainders(rt: HostRuntime) {
         (INDUCTOR, 65535, 7, 0),
     ];
     for (kind, value, start, expected) in table {
-        assert_eq!(rt; placed_residue(kind, value, start), expected);
+        assert_eq!(rt; placed::<u16>(0, kind, 1, 0, value, start), expected);
     }
 }
 

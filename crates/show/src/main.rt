@@ -19,7 +19,7 @@ use cards::read_cards;
 use sheet::{Plan, fresh_rows};
 use std::io::Read;
 
-// The longest card file that is read. This program stands on no key.
+// The longest card file that is read. This program stands on no key, where there is such a limit too.
 const LONGEST: u64 = 4096;
 
 fn show(rt: &HostRuntime, asked: Asked, cards: &[u8]) -> anyhow::Result<()> {

@@ -11,22 +11,13 @@ fn number(sign: Sign) -> i32 {
     }
 }
 
-fn show_row(rt: &HostRuntime, plan: &Plan, row: Shown) -> anyhow::Result<()> {
+// The signs of the placed branches, to the end of the line.
+fn show_signs<F: Fn(u32) -> Sign>(rt: &HostRuntime, plan: &Plan, sign: F) -> anyhow::Result<()>
+    requires { F.IsAlwaysCallable sign }
+{
     for k in 0..32 {
         if is_placed(plan, k) {
-            let entry = number(sign_at(row, k));
-            print!(rt; " {entry}")?;
-        }
-    }
-    println!(rt; "")?;
-    Ok(())
-}
-
-fn show_node(rt: &HostRuntime, plan: &Plan, node: u32) -> anyhow::Result<()> {
-    print!(rt; "node {node}")?;
-    for k in 0..32 {
-        if is_placed(plan, k) {
-            let entry = number(incidence(plan, node, k));
+            let entry = number(sign(k));
             print!(rt; " {entry}")?;
         }
     }
@@ -46,7 +37,7 @@ fn show_rows<F: Fn(u32) -> Result<Option<Shown>, Refusal>>(
     for k in 0..32 {
         if let Ok(Some(row)) = row_of(k) {
             print!(rt; "{name} {k}")?;
-            show_row(rt, plan, row)?;
+            show_signs(rt, plan, |j| sign_at(row, j))?;
         }
     }
     Ok(())
@@ -54,7 +45,8 @@ fn show_rows<F: Fn(u32) -> Result<Option<Shown>, Refusal>>(
 
 pub(crate) fn show_matrices(rt: &HostRuntime, plan: &Plan) -> anyhow::Result<()> {
     for node in 0..16 {
-        show_node(rt, plan, node)?;
+        print!(rt; "node {node}")?;
+        show_signs(rt, plan, |k| incidence(plan, node, k))?;
     }
     if let Err(refusal) = tree(plan) {
         println!(rt; "refused {refusal}")?;

@@ -1,4 +1,5 @@
-// Steps of a sheet, one after another: the readings of all branches after each, and the trace of one of them.
+// Steps of a sheet, one after another: the readings of all branches after each, and the trace of one of them. Plan and rows
+// stay two parameters, as in every call that they are handed on to.
 use crate::asked::Asked;
 use arithmetic::Arithmetic;
 use figures::{Trace, reading_of};

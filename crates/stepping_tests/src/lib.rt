@@ -12,7 +12,7 @@ use stepping::step;
 mod tests;
 
 // A figure as the number that it is compared by: its bits, or its remainder, which is worked out here and not asked of the
-// engine.
+// engine. The replay's figures are read and written, and compared as words.
 pub trait Figure: Copy {
     fn code(self) -> u64;
 }
@@ -29,8 +29,8 @@ impl Figure for u16 {
     }
 }
 
-// The plan of a list of branches at the places 0, 1 and so on: kind, tail, head, value and start. The rows are blanked
-// first.
+// The plan of a list of branches at the places 0, 1 and so on: kind, tail, head, value and start, which the tests of trees
+// leave out. The rows are blanked first.
 pub fn drawn<N: Arithmetic>(
     rows: &mut [Row<N>],
     branches: &[(Kind, u32, u32, N, N)],

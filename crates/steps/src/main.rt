@@ -13,7 +13,8 @@ use std::io::Read;
 use std::num::f64_to_bits_with_nan;
 use stepping::step;
 
-// The longest card file that is read. This program stands on no key.
+// The longest card file that is read. This program stands on no key and on no other program: `show` reads and steps a card
+// file in as many lines, which a library for both would not make plainer. Plan and rows are handed on as the calls take them.
 const LONGEST: u64 = 4096;
 
 fn take_steps(plan: &Plan, rows: &mut [Row<f64>], steps: u32) -> Result<(), Refusal> {

@@ -9,7 +9,7 @@
 -- placed p      the places, 0 to 31, that hold a branch
 -- class_at p    the class at each place
 -- passes t o    what stands at a place is of a kind that passes the test t
--- listed ks o   the kind o is one of the list ks
+-- listed ks k   the kind k is one of the list ks; kinds differ in their class
 -- among t p     the placed branches of the kinds that pass the test t
 -- Labelled      a list has the labels of the nodes 0 to 15 when the members of S below m are merged
 -- alike ls a    the nodes with the label that the node a has in the list
