@@ -7,7 +7,7 @@ ghost use Rattle.topology.specs.Matrices.{Matrices};
 ghost use Rattle.topology.specs.Meanings.{TreeAnswer, LoopAnswer, CutAnswer, IncidenceAnswer};
 ghost use Rattle.topology.specs.Networks.{graph_of};
 ghost use Rattle.topology.specs.Rows.{sign_of};
-ghost use Rattle.topology.specs.Trees.{tree_of, loop_row_of, cut_row_of};
+ghost use Rattle.topology.specs.Trees.{tree_of, loop_of, cut_of, loop_row_of, cut_row_of};
 
 use crate::keeping::kept_branches;
 use crate::network::{head, is_placed, no_current_sources, tail, voltage_sources};
@@ -33,23 +33,35 @@ pub fn tree(plan: &Plan) -> Result<u32, Refusal>
     Ok(kept)
 }
 
-// The loop row of a link, a placed branch outside the tree; none for another number. Refused as the tree is.
+// The loop row of a link, a placed branch outside the tree; none for another number. For a caller that has the tree.
+pub fn loop_in(plan: &Plan, tree: u32, number: u32) -> Option<Shown>
+    ensures { result ≡ loop_of plan.now tree number }
+{
+    let is_link = is_placed(plan, number) && !has(tree, number);
+    is_link.then(|| loop_along(plan, tree, number))
+}
+
+// The cut row of a branch of the tree; none for another number. For a caller that has the tree.
+pub fn cut_in(plan: &Plan, tree: u32, number: u32) -> Option<Shown>
+    ensures { result ≡ cut_of plan.now tree number }
+{
+    has(tree, number).then(|| cut_of_branch(plan, tree, number))
+}
+
+// The loop row of a link of the plan's tree. Refused as the tree is.
 pub fn loop_row(plan: &Plan, number: u32) -> Result<Option<Shown>, Refusal>
     ensures answer { told result ≡ loop_row_of plan.now number }
     ensures meaning { LoopAnswer plan.now number (told result) }
 {
-    let tree = tree(plan)?;
-    let is_link = is_placed(plan, number) && !has(tree, number);
-    Ok(is_link.then(|| loop_along(plan, tree, number)))
+    Ok(loop_in(plan, tree(plan)?, number))
 }
 
-// The cut row of a tree branch; none for another number. Refused as the tree is.
+// The cut row of a branch of the plan's tree. Refused as the tree is.
 pub fn cut_row(plan: &Plan, number: u32) -> Result<Option<Shown>, Refusal>
     ensures answer { told result ≡ cut_row_of plan.now number }
     ensures meaning { CutAnswer plan.now number (told result) }
 {
-    let tree = tree(plan)?;
-    Ok(has(tree, number).then(|| cut_of_branch(plan, tree, number)))
+    Ok(cut_in(plan, tree(plan)?, number))
 }
 
 // Plus where the branch has its tail at the node, minus where it has its head there, else zero.

@@ -11,7 +11,7 @@ mod rows;
 mod sign;
 mod words;
 
-pub use calls::{cut_row, incidence, loop_row, row_laws, tree};
+pub use calls::{cut_in, cut_row, incidence, loop_in, loop_row, row_laws, tree};
 pub use network::{branches_of, is_placed, no_current_sources, placed_branches, voltage_sources};
 pub use rows::{cut_of_branch, sign_at};
 pub use sign::Sign;

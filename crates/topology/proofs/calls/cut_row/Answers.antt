@@ -1,11 +1,7 @@
-use Rattle.std.proofs.Common.{rules, IfSome, ◌≡◌, ap, ◌∙◌}
+use Rattle.std.proofs.Common.{ap, ◌∙◌}
 use Rattle.std.proofs.lemmas.Result.{err_from_is_err_and}
 use Rattle.sheet.specs.Refusals.{granted, after}
-use Rattle.graphs.specs.Cuts.{cut_row}
-use Rattle.topology.specs.Networks.{graph_of}
-use Rattle.topology.specs.Rows.{shown}
-use Rattle.topology.specs.Words.{bits}
-use Rattle.topology.proofs.Answering.{with_meaning, shown_if}
+use Rattle.topology.proofs.Answering.{with_meaning}
 use Rattle.topology.specs.Meanings.{CutAnswer}
 use Rattle.topology.specs.Trees.{cut_of, cut_row_of}
 use Rattle.topology.proofs.Meaning.{cut-answer}
@@ -21,5 +17,4 @@ pub returns : goal.returns
 unfolding cut_row_of
 returns c =
     with_meaning (CutAnswer c.args.plan.now c.args.number) (cut-answer c.args.plan.now c.args.number)
-    (ap granted (shown_if c.then.result _ _ (c.then.ensures.variant ∙ c.has.ensures) (let is : IfSome c.then.result (λ s. s ≡ shown (cut_row (graph_of c.args.plan.now) (bits c.in_ok-tree.tree) 32 c.args.number)) = search rules in is))
-    ∙ ap (λ a. after a (λ tree. granted (cut_of c.args.plan.now tree c.args.number))) c.in_ok-tree.ensures.answer)
+    (ap granted c.cut_in.ensures ∙ ap (λ a. after a (λ tree. granted (cut_of c.args.plan.now tree c.args.number))) c.in_ok-tree.ensures.answer)
