@@ -3,31 +3,21 @@ use Rattle.std.proofs.Common.{◌≡◌, ℕ, zero, suc, ◌+◌, ◌-◌, ◌<�
 use Rattle.sheet.specs.declared.plan.Plan.{Plan}
 use Rattle.sheet.specs.declared.refusal.Shown.{Shown}
 use Rattle.sheet.specs.declared.refusal.Refusal.{Refusal}
-use Rattle.sheet.specs.Refusals.{granted, refused, after, told, Told}
+use Rattle.sheet.specs.Refusals.{granted, told}
 use Rattle.slips.specs.declared.row.SlipRow.{SlipRow}
 use Rattle.slips.specs.Writing.{opened, blanked, slip_answer, Holds, ReadsBack}
 use Rattle.slips.proofs.Whole.{Written, Slipped, none_written}
-use Rattle.topology.specs.Trees.{tree_of, loop_of, loop_row_of}
+use Rattle.topology.specs.Trees.{tree_of, loop_of}
 use Rattle.plan_slips.specs.Own.{row_of, own_rows, OwnSlip}
-
-pub of_tree : (p : Plan) (w k : ℕ) → tree_of p ≡ granted w → loop_row_of p k ≡ granted (loop_of p w k)
-unfolding loop_row_of
-of_tree p w k t = ap (λ a. after a (λ tree. granted (loop_of p tree k))) t
-
-pub link_row : (p : Plan) (w k : ℕ) {x : Option Shown} → granted x ≡ loop_row_of p k → tree_of p ≡ granted w → x ≡ loop_of p w k
-link_row p w k e t = let f = of_tree p w k t in cc
-
-pub no_refusal : (p : Plan) (w k : ℕ) {t : Told} → refused t ≡ loop_row_of p k → tree_of p ≡ granted w → ⊥
-no_refusal p w k e t = let f = of_tree p w k t in cc
 
 same_tree : (p : Plan) {w v : ℕ} → granted w ≡ tree_of p → tree_of p ≡ granted v → w ≡ v
 same_tree p e f = cc
 
 -- before the first row
-pub begun : (p : Plan) {w v : ℕ} {area a : List ℕ} {at next : ℕ} → granted w ≡ tree_of p → tree_of p ≡ granted v → a ≡ opened w area → at ≡ 32 → next ≡ 0
-    → (280 ≤ length area → Holds (record { tree = w; rows = [] }) a at next) → Written v (own_rows p v 0) area a at next
+pub begun : (p : Plan) (w : ℕ) {area a : List ℕ} {at next : ℕ} → a ≡ opened w area → at ≡ 32 → next ≡ 0
+    → (280 ≤ length area → Holds (record { tree = w; rows = [] }) a at next) → Written w (own_rows p w 0) area a at next
 unfolding own_rows
-begun p {w} {v} {area} {a} {at} {next} e f is x y h = subst (λ z. Written z [] area a at next) (same_tree p e f) (none_written w area is x y h)
+begun p w {area} is x y h = none_written w area is x y h
 
 -- at the end
 pub own_slip : {p : Plan} {w : ℕ} {area b : List ℕ} {r : Result ℕ Refusal} → granted w ≡ tree_of p → Slipped (record { tree = w; rows = own_rows p w 32 }) area b r → OwnSlip p area b r

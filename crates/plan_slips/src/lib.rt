@@ -5,7 +5,7 @@ ghost use Rattle.plan_slips.specs.Own.{OwnSlip};
 
 use sheet::{Plan, Refusal};
 use slips::{SlipWriter, entries_of};
-use topology::{loop_row, tree};
+use topology::{loop_in, tree};
 
 #[cfg(test)]
 mod tests;
@@ -17,7 +17,7 @@ pub fn write_plan_slip(area: &mut [u8], plan: &Plan) -> Result<usize, Refusal>
     let tree = tree(plan)?;
     let mut writer = SlipWriter::open(area, tree);
     for k in 0..32 {
-        if let Some(row) = loop_row(plan, k)? {
+        if let Some(row) = loop_in(plan, tree, k) {
             writer.row(k, &entries_of(row))?;
         }
     }
