@@ -8,29 +8,29 @@ use crate::card_sheet::CardSheet;
 use crate::stop::Stop;
 use arithmetic::Arithmetic;
 use figures::reading;
-use sheet::{Plan, Refusal, Row};
+use sheet::Refusal;
 use std::alloc::AllocError;
 use stepping::step;
 use topology::is_placed;
 
 // The reading of the branch k; none at an empty place.
-fn reading_at(plan: &Plan, rows: &[Row<f64>], k: u32) -> Result<Option<i32>, Refusal>
-    ensures { told result ≡ reading_here plan.now rows.now k }
+fn reading_at(sheet: &CardSheet<f64>, k: u32) -> Result<Option<i32>, Refusal>
+    ensures { told result ≡ reading_here sheet.now.plan sheet.now.rows k }
 {
-    if !is_placed(plan, k) {
+    if !is_placed(&sheet.plan, k) {
         return Ok(None);
     }
-    reading(plan, rows, k).map(Some)
+    reading(&sheet.plan, &sheet.rows, k).map(Some)
 }
 
 // The readings of all branches, or the first that is refused.
-fn readings(plan: &Plan, rows: &[Row<f64>]) -> Result<[Option<i32>; 32], Refusal>
-    ensures { told result ≡ readings_below plan.now rows.now 32 }
+fn readings(sheet: &CardSheet<f64>) -> Result<[Option<i32>; 32], Refusal>
+    ensures { told result ≡ readings_below sheet.now.plan sheet.now.rows 32 }
 {
     // Not by the library's `try_from_fn`, whose clause does not tie what a call saw to what the closure holds.
     let mut readings = [None; 32];
     for (k, reading) in readings.iter_mut().enumerate() {
-        *reading = reading_at(plan, rows, k as u32)?;
+        *reading = reading_at(sheet, k as u32)?;
     }
     Ok(readings)
 }
@@ -46,7 +46,7 @@ fn stepped_readings(sheet: &mut CardSheet<f64>) -> Result<[Option<i32>; 32], Ref
         <f64 as Arithmetic>::one(),
         &mut area,
     )?;
-    readings(&sheet.plan, &sheet.rows)
+    readings(sheet)
 }
 
 // `mv 1 4000` for each branch.

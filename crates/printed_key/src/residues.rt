@@ -11,7 +11,8 @@ use arithmetic::{Arithmetic, remainder_of};
 use std::alloc::AllocError;
 use stepping::step;
 
-// The cards in remainders after one step of length 1.
+// The cards in remainders after one step of length 1. Tried: one function with that of the readings; a work area of a generic
+// arithmetic asks that its size fit, and nothing bounds it.
 fn stepped_residues(input: &[u8]) -> Result<CardSheet<u16>, Stop>
     ensures { residue_lines input.now ≡ residue_lines_read result }
 {
