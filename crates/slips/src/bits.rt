@@ -29,8 +29,8 @@ pub(crate) fn blank_area(area: &mut [u8])
     ensures area { area.new ≡ blanked area.old }
     ensures past { Past area.old area.new }
 {
-    if let Some(bytes) = area.first_chunk_mut::<280>() {
-        bytes.fill(0);
+    if area.len() >= 280 {
+        area[..280].fill(0);
     }
 }
 
