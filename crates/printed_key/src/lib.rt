@@ -4,7 +4,7 @@
 #![tactic(auto)]
 
 ghost use Rattle.std.specs.Prelude.{◌≡◌, ◌<◌, length, IfOk, string_bytes, codes};
-ghost use Rattle.printed_key.specs.Key.{Blocks, key_blocks, key_text, lines_by, network_text};
+ghost use Rattle.printed_key.specs.Key.{Blocks, circuit_tree, key_blocks, key_text, lines_by, lines_read, network_text, tree_read};
 ghost use Rattle.printed_key.specs.Text.{Adds, text_of};
 ghost use Rattle.printed_key.specs.declared.circuit.Circuit.{Circuit};
 
@@ -17,15 +17,31 @@ mod stop;
 mod words;
 
 pub use card_sheet::CardSheet;
-pub use circuit::{Circuit, read_circuit};
+use card_sheet::read_sheet;
+pub use circuit::Circuit;
 use network::push_network;
 use readings::push_readings;
 use residues::push_residues;
+use sheet::Refusal;
 use std::alloc::{AllocError, Global};
 pub use stop::Stop;
+use topology::tree;
 
 // The longest input, in bytes.
 pub const LONGEST: usize = 4096;
+
+// The circuit of a card file, or what stands in its way.
+pub fn read_circuit(input: &[u8]) -> Result<Circuit, Stop>
+    ensures lines { (blocks : Blocks) → lines_by blocks input.now ≡ lines_read blocks result }
+    ensures tree { tree_read result ≡ circuit_tree input.now }
+{
+    if input.len() > LONGEST {
+        return Err(Stop::Refused(Refusal::InputTooLong));
+    }
+    let sheet = read_sheet(input)?;
+    let tree = tree(&sheet.plan)?;
+    Ok(Circuit { sheet, tree })
+}
 
 // The text of a key: what the closure pushes of the circuit, or what stands in its way.
 fn text_by<F: FnOnce(&mut String, Circuit) -> Result<(), AllocError>>(
@@ -45,11 +61,12 @@ fn text_by<F: FnOnce(&mut String, Circuit) -> Result<(), AllocError>>(
 }
 
 // The blocks of a whole key.
-fn push_key(text: &mut String, mut circuit: Circuit, input: &[u8]) -> Result<(), AllocError>
+fn push_key(text: &mut String, circuit: Circuit, input: &[u8]) -> Result<(), AllocError>
     ensures { Adds result (string_bytes text.old) (string_bytes text.new) (text_of (key_blocks input.now (record { plan = circuit.sheet.plan; rows = circuit.sheet.rows }) circuit.tree)) }
 {
-    push_network(text, &circuit.sheet.plan, circuit.tree)?;
-    push_readings(text, &mut circuit.sheet)?;
+    push_network(text, &circuit)?;
+    let Circuit { mut sheet, .. } = circuit;
+    push_readings(text, &mut sheet)?;
     push_residues(text, input)
 }
 
@@ -58,11 +75,7 @@ pub fn printed_key(heap: Global, input: &[u8]) -> Result<String, AllocError>
     ensures text { IfOk result (λ t. string_bytes t ≡ network_text input.now) }
     ensures too_long { 4096 < length input.now → IfOk result (λ t. string_bytes t ≡ codes "refused 25\n") }
 {
-    text_by(
-        heap,
-        input,
-        |text, circuit| push_network(text, &circuit.sheet.plan, circuit.tree),
-    )
+    text_by(heap, input, |text, circuit| push_network(text, &circuit))
 }
 
 // The same with the readings and the remainders.

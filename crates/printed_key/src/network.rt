@@ -3,37 +3,44 @@ ghost use Rattle.std.specs.Prelude.{◌≡◌, ℕ, ◌<◌, Option, string_byte
 ghost use Rattle.printed_key.specs.Blocks.{network_lines, row_lines};
 ghost use Rattle.printed_key.specs.Text.{Adds, text_of, listed};
 ghost use Rattle.sheet.specs.declared.refusal.Shown.{Shown};
-ghost use Rattle.sheet.specs.Refusals.{Answer, told};
+ghost use Rattle.sheet.specs.Refusals.{Answer, granted};
 
+use crate::circuit::Circuit;
 use crate::words::{Members, Signed};
-use sheet::{Plan, Refusal, Shown};
+use sheet::Shown;
 use std::alloc::AllocError;
-use topology::{cut_row, loop_row};
+use topology::{cut_in, loop_in};
 
 // `loop 1 -0 +1 +2` for each place that has a row: the name, the place, and the signed members.
-fn push_rows<F: Fn(u32) -> Result<Option<Shown>, Refusal>>(
+fn push_rows<F: Fn(u32) -> Option<Shown>>(
     text: &mut String,
     name: &str,
     row_at: F,
 ) -> Result<(), AllocError>
     requires { F.IsAlwaysCallable row_at }
-    ensures { (rows : ℕ → Answer (Option Shown)) → ((k : ℕ) (r : _) → k < 32 → F.post row_at k r → told r ≡ rows k) → Adds result (string_bytes text.old) (string_bytes text.new) (text_of (listed (λ k. row_lines name.now k (rows k)) 32)) }
+    ensures { (rows : ℕ → Answer (Option Shown)) → ((k : ℕ) (r : _) → k < 32 → F.post row_at k r → granted r ≡ rows k) → Adds result (string_bytes text.old) (string_bytes text.new) (text_of (listed (λ k. row_lines name.now k (rows k)) 32)) }
 {
     for k in 0..32 {
-        match row_at(k) {
-            Ok(Some(row)) => writeln!(text, "{name} {k}{}", Signed(row))?,
-            Ok(None) => {}
-            Err(_) => {}
+        if let Some(row) = row_at(k) {
+            writeln!(text, "{name} {k}{}", Signed(row))?;
         }
     }
     Ok(())
 }
 
 // `tree 0 2`, a line for each link, and a line for each tree branch.
-pub(crate) fn push_network(text: &mut String, plan: &Plan, tree: u32) -> Result<(), AllocError>
-    ensures { Adds result (string_bytes text.old) (string_bytes text.new) (text_of (network_lines plan.now tree)) }
+pub(crate) fn push_network(text: &mut String, circuit: &Circuit) -> Result<(), AllocError>
+    ensures { Adds result (string_bytes text.old) (string_bytes text.new) (text_of (network_lines circuit.now.sheet.plan circuit.now.tree)) }
 {
-    writeln!(text, "tree{}", Members(tree))?;
-    push_rows(text, "loop", |k| loop_row(plan, k))?;
-    push_rows(text, "cut", |k| cut_row(plan, k))
+    writeln!(text, "tree{}", Members(circuit.tree))?;
+    push_rows(
+        text,
+        "loop",
+        |k| loop_in(&circuit.sheet.plan, circuit.tree, k),
+    )?;
+    push_rows(
+        text,
+        "cut",
+        |k| cut_in(&circuit.sheet.plan, circuit.tree, k),
+    )
 }

@@ -1,16 +1,19 @@
-use Rattle.std.proofs.Common.{[], ◌∷◌, string_bytes, codes, refl, rules}
-use Rattle.topology.specs.Trees.{loop_row_of, cut_row_of}
+use Rattle.std.proofs.Common.{◌≡◌, [], ◌∷◌, string_bytes, codes, refl, sym, ap, ◌∙◌, rules}
+use Rattle.sheet.specs.Refusals.{granted, after}
+use Rattle.topology.specs.Trees.{loop_of, cut_of, loop_row_of, cut_row_of}
 use Rattle.printed_key.specs.Blocks.{tree_line, loop_lines, cut_lines}
 use Rattle.printed_key.specs.Text.{listed}
 use Rattle.printed_key.proofs.Adding.{then_lines, adds_then, line_added}
 use Rattle.printed_key.proofs.network.push_network.Goals as goal
 
 pub returns : goal.returns
+unfolding loop_row_of cut_row_of
 returns c =
     let a = string_bytes c.args.text.now in
-    let p = c.args.plan.now in
-    let w = c.args.tree in
+    let p = c.args.circuit.now.sheet.plan in
+    let w = c.args.circuit.now.tree in
+    let of_plan = c.args.circuit.now.of_plan in
     adds_then _ a _ _ (tree_line w ∷ listed (loop_lines p) 32) (listed (cut_lines p) 32)
     (then_lines a _ _ (tree_line w ∷ []) (listed (loop_lines p) 32) (line_added a _ (codes "tree") _ _ c.in_ok-writeln.ensures.bytes refl)
-    (c.in_ok-push_rows.ensures (loop_row_of p) (λ k r lt e. search rules)))
-    (c.push_rows-2.ensures (cut_row_of p) (λ k r lt e. search rules))
+    (c.in_ok-push_rows.ensures (loop_row_of p) (λ k r lt e. let row : r ≡ loop_of p w k = search rules in ap granted row ∙ sym (ap (λ t. after t (λ tree. granted (loop_of p tree k))) of_plan))))
+    (c.push_rows-2.ensures (cut_row_of p) (λ k r lt e. let row : r ≡ cut_of p w k = search rules in ap granted row ∙ sym (ap (λ t. after t (λ tree. granted (cut_of p tree k))) of_plan)))

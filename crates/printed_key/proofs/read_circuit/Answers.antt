@@ -3,7 +3,7 @@ use Rattle.std.proofs.lemmas.Result.{err_from_is_err_and}
 use Rattle.printed_key.specs.Blocks.{or_refused}
 use Rattle.printed_key.specs.Key.{lines_read, tree_read}
 use Rattle.printed_key.proofs.Keying.{long_lines, long_tree, faulty_lines, faulty_tree, read_lines, read_tree}
-use Rattle.printed_key.proofs.circuit.read_circuit.Goals as goal
+use Rattle.printed_key.proofs.read_circuit.Goals as goal
 
 pub returns-then-input-gt-LONGEST : goal.returns-then-input-gt-LONGEST
 returns-then-input-gt-LONGEST c =
