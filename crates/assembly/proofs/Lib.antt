@@ -1,5 +1,7 @@
 pub mod Turns
 pub mod Reading
+pub mod Members
 pub mod Framing
 pub mod Filling
 pub mod Making
+pub mod Counting

@@ -1,5 +1,5 @@
 -- Gathered sums are the sums of the parts that a frame and an area hold. Assumes nothing.
-use Rattle.std.proofs.Common.{ltb, length, is_some, Some, None, Option, MatchOption, IfSome, count_by, ◌≡◌, ℕ, zero, suc, ◌+◌, Bool, true, false, cond, List, ◌∷◌, get_or, set, sym, refl, ap, ◌∙◌, subst, ap₂, arith, get_or-set_other}
+use Rattle.std.proofs.Common.{ltb, length, is_some, Some, None, Option, MatchOption, IfSome, count_by, ◌≡◌, ℕ, zero, suc, ◌+◌, Bool, true, false, cond, List, ◌∷◌, get_or, set, sym, ap, ◌∙◌, subst, ap₂, arith, get_or-set_other}
 use Rattle.std.specs.List.{range_with_len}
 use Rattle.std.proofs.lemmas.Bool.{cond-true}
 use Rattle.std.proofs.lemmas.List.Sums.{sum_by-cons}
@@ -19,11 +19,6 @@ module _ {M : Type 0} (o : Ops M) where
   -- one turn of a gathering
   abbrev pub turn : Set → (ℕ → Sign) → (ℕ → M) → ℕ → M → M
   turn S s x k a = cond (S k) (taken o (s k) (x k) a) a
-
-  -- turns by equal members, signs and terms are equal
-  pub turn_same : (b c : Bool) (s r : Sign) (x y a : M) → b ≡ c → (c ≡ true → s ≡ r) → (c ≡ true → x ≡ y) → cond b (taken o s x a) a ≡ cond c (taken o r y a) a
-  turn_same b true s r x y a e f h = ap (λ b. cond b (taken o s x a) a) e ∙ ap (λ s. taken o s x a) (f refl) ∙ ap (λ x. taken o r x a) (h refl)
-  turn_same b false s r x y a e f h = ap (λ b. cond b (taken o s x a) a) e
 
 -- what a word's question says of the set that it means
 pub asked : {S R : Set} (k : ℕ) {r b : Bool} → S ≡ R → r ≡ S k → r ≡ b → R k ≡ b

@@ -8,7 +8,7 @@ ghost use Rattle.stories.specs.Assembly.{Parts};
 ghost use Rattle.stories.specs.Steps.{tree_voltage, voltage_of, flow_of, current_of};
 
 use crate::frame::Frame;
-use crate::gathering::gather;
+use crate::gathering::{gather, gather_row};
 use crate::rows::turn_row;
 use crate::setting::Setting;
 use crate::system::place_among;
@@ -111,12 +111,7 @@ fn current_of<N: Arithmetic>(frame: &Frame, flows: &[N], k: u32) -> N
 {
     if has(frame.fixed, k) {
         let row = turn_row(frame.cut(k));
-        gather(
-            frame.link,
-            |j| sign_at(row, j),
-            |j| get(flows, j as usize),
-            N::zero(),
-        )
+        gather_row(frame.link, row, |j| get(flows, j as usize), N::zero())
     } else {
         get(flows, k as usize)
     }

@@ -5,12 +5,12 @@ ghost use Rattle.graphs.specs.Graph.{◌∈◌};
 ghost use Rattle.stories.specs.Assembly.{Parts, entry_of, fed, levelled, right_of};
 
 use crate::frame::Frame;
-use crate::gathering::gather;
+use crate::gathering::gather_row;
 use crate::rows::{agreement, turn_row};
 use arithmetic::Arithmetic;
 use linear::get;
 use sheet::Row;
-use topology::{has, sign_at};
+use topology::has;
 
 // The frame, the area with the companions of the branches, and the rows with the voltages of the sources. The contracts
 // speak of any parts that these have (`Sets`) and of the parts' tree: a ghost field would ask callers for some parts.
@@ -27,9 +27,9 @@ impl<'a, N: Arithmetic> Setting<'a, N> {
         ensures { (c : Parts N.Meaning) → Sets N.ops N.mean c self.now.frame.now self.now.area.now self.now.rows.now → t ∈ c.tree → r ∈ c.tree → N.mean result ≡ entry_of N.ops c t r }
     {
         let row = agreement(self.frame.cut(t), self.frame.cut(r));
-        gather(
+        gather_row(
             self.frame.passive,
-            |k| sign_at(row, k),
+            row,
             |k| get(self.area, k as usize),
             N::zero(),
         )
@@ -40,9 +40,9 @@ impl<'a, N: Arithmetic> Setting<'a, N> {
         ensures { (c : Parts N.Meaning) → Sets N.ops N.mean c self.now.frame.now self.now.area.now self.now.rows.now → t ∈ c.tree → N.mean result ≡ fed N.ops c t }
     {
         let row = turn_row(self.frame.cut(t));
-        gather(
+        gather_row(
             self.frame.feeding,
-            |k| sign_at(row, k),
+            row,
             |k| get(self.area, 32 + k as usize),
             N::zero(),
         )
@@ -65,9 +65,9 @@ impl<'a, N: Arithmetic> Setting<'a, N> {
         }
         let row = turn_row(agreement(self.frame.cut(t), self.frame.cut(v)));
         let level = self.level(v);
-        gather(
+        gather_row(
             self.frame.passive,
-            |k| sign_at(row, k),
+            row,
             |k| get(self.area, k as usize).product(level),
             sum,
         )

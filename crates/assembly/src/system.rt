@@ -20,7 +20,7 @@ use topology::has;
 pub(crate) fn place_among(word: u32, k: u32) -> u32
     ensures { result ≡ count_by (bits word) (range_with_len 0 k) }
 {
-    (0..k).filter(|j| has(word, *j)).count() as u32
+    (u64::from(word) & ((1 << k.min(32)) - 1)).count_ones()
 }
 
 // The entry of the unknowns t and r, where r is one.

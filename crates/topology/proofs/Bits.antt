@@ -126,7 +126,7 @@ unfolding those
 those_cong S R zero h = refl
 those_cong S R (suc n) h = ap₂ (λ x b. x + cond b (2 ^ n) zero) (those_cong S R n (λ k lt. h k (omega arith))) (h n (omega arith))
 
-bit_value : (m : ℕ) → cond (eqb (m % 2) 1) 1 0 ≡ m % 2
+pub bit_value : (m : ℕ) → cond (eqb (m % 2) 1) 1 0 ≡ m % 2
 bit_value m = by_bit (λ x y. cond (eqb x 1) 1 0 ≡ x) refl refl refl refl m m
 
 one_bit : (v w i : ℕ) → bits v i ≡ bits w i → bit_at v i ≡ bit_at w i

@@ -1,8 +1,12 @@
 -- The lowest member of a set.
-use Rattle.std.proofs.Common.{◌≡◌, ℕ, zero, suc, ◌+◌, ◌<◌, ◌≤◌, Bool, true, false, cond, ◌⊎◌, Some, None, Option, MatchOption, sym, refl, ap, ◌∙◌, inl, inr, arith}
-use Rattle.std.proofs.lemmas.Bool.{cond-true, cond-false, cases_eq}
+use Rattle.std.proofs.Common.{◌≡◌, ℕ, zero, suc, ◌+◌, ◌^◌, ◌<◌, ◌≤◌, Bool, true, false, cond, not, eqb, ◌⊎◌, is_some, Some, None, Option, MatchOption, IfSome, sym, refl, ap, ◌∙◌, inl, inr, arith}
+use Rattle.std.proofs.lemmas.Bool.{cond-true, cond-false, cases_eq, eq-eqb, ne_eqb}
+use Rattle.std.proofs.lemmas.Nat.Bits.{bit_at-trailing_zeros}
+use Rattle.std.specs.Int.{trailing_zeros}
+use mir.Syntax.{w32}
 use Rattle.graphs.specs.Graph.{Set, ◌∈◌}
-use Rattle.topology.specs.Words.{first_from}
+use Rattle.topology.specs.Words.{bits, first, first_from}
+use Rattle.topology.proofs.Bits.{bits_zero}
 
 -- what is found: none if no number from k on is in the set, and else the lowest that is
 abbrev pub Finds : Set → ℕ → ℕ → Option ℕ → Type 0
@@ -52,3 +56,19 @@ first-none S k (suc n) j e le lt = go (S k) refl e (cases_eq k j) (first-none S 
     go true m e c ih = let z : ◌≡◌ {A = ℕ} 0 1 = cc in absurd (omega arith)
     go false m e (inl same) ih = ap S (sym same) ∙ m
     go false m e (inr ne) ih = ih e (omega arith) (omega arith)
+
+-- the lowest 1 of a word is its first member
+lowest_finds : (w : ℕ) → w < 2 ^ 32 → (r : Option ℕ) → is_some r ≡ not (eqb w 0) → IfSome r (λ k. k ≡ trailing_zeros w32 w) → Finds (bits w) 0 32 r
+unfolding bits
+lowest_finds w h r e f = go (cases_eq w 0) r e f
+  where
+    go : (w ≡ 0) ⊎ (w ≡ 0 → ⊥) → (r : Option ℕ) → is_some r ≡ not (eqb w 0) → IfSome r (λ k. k ≡ trailing_zeros w32 w) → Finds (bits w) 0 32 r
+    go (inl z) None e f = λ j le lt. ap (λ v. bits v j) z ∙ bits_zero j
+    go (inl z) (Some k) e f = let q = eq-eqb w 0 z in absurd (let n : true ≡ false = e ∙ ap not q in cc)
+    go (inr ne) None e f = let q = ne_eqb w 0 ne in absurd (let n : false ≡ true = e ∙ ap not q in cc)
+    go (inr ne) (Some k) e f =
+        let t = bit_at-trailing_zeros w32 w (omega arith) h in
+        (omega arith, omega (arith, f, t.0), ap (bits w) f ∙ ap (λ x. eqb x 1) t.1, λ j le lt. ap (λ x. eqb x 1) (t.2 j (omega (arith, f))))
+
+pub lowest_is : (w : ℕ) → w < 2 ^ 32 → (r : Option ℕ) → is_some r ≡ not (eqb w 0) → IfSome r (λ k. k ≡ trailing_zeros w32 w) → r ≡ first (bits w)
+lowest_is w h r e f = is_first (bits w) 0 32 r (lowest_finds w h r e f)

@@ -7,8 +7,9 @@
 -- under S n      the members of S below n
 -- first_from     the first of n numbers from k on that is in S
 -- first S        the lowest member of S below 32
-use Rattle.std.specs.Prelude.{ℕ, zero, suc, ◌+◌, ◌/◌, ◌%◌, ◌^◌, cond, not, ◌&&◌, Some, None, Option, ◌==◌, nat_lt}
-use Rattle.graphs.specs.Graph.{Set}
+-- TakesLowest    the lowest member was taken out of the word v, and is not in w; or there is none, and w is v
+use Rattle.std.specs.Prelude.{◌≡◌, ℕ, zero, suc, ◌+◌, ◌/◌, ◌%◌, ◌^◌, cond, not, ◌&&◌, Some, None, Option, MatchOption, ◌==◌, nat_lt}
+use Rattle.graphs.specs.Graph.{Set, without}
 
 unfoldable pub bits : ℕ → Set
 bits w k = w / 2 ^ k % 2 == 1
@@ -32,3 +33,6 @@ first_from S k (suc n) = cond (S k) (Some k) (first_from S (suc k) n)
 
 abbrev pub first : Set → Option ℕ
 first S = first_from S 0 32
+
+abbrev pub TakesLowest : ℕ → Option ℕ → ℕ → Type 0
+TakesLowest v r w = (r ≡ first (bits v)) × MatchOption r (w ≡ v) (λ k. bits w ≡ without (bits v) k)

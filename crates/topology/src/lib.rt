@@ -3,6 +3,7 @@
 // mean in a graph's own words, and specs/Matrices.antt how the rows stand to incidence and to one another.
 #![tactic(auto)]
 
+mod ascending;
 mod calls;
 mod keeping;
 mod labels;
@@ -11,6 +12,7 @@ mod rows;
 mod sign;
 mod words;
 
+pub use ascending::{Members, members_of};
 pub use calls::{cut_in, cut_row, incidence, loop_in, loop_row, row_laws, tree};
 pub use network::{branches_of, is_placed, no_current_sources, placed_branches, voltage_sources};
 pub use rows::{cut_of_branch, sign_at};

@@ -49,7 +49,7 @@ pub fn less(a: u32, b: u32) -> u32
 pub(crate) fn lowest(word: u32) -> Option<u32>
     ensures { result ≡ first (bits word) }
 {
-    (0..32).find(|k| has(word, *k))
+    (word != 0).then(|| word.trailing_zeros())
 }
 
 // The numbers below 32 that pass.

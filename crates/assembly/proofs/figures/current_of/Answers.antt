@@ -2,7 +2,6 @@ use Rattle.std.proofs.Common.{◌≡◌, map, get_or, rules, sym, ap, ◌∙◌,
 use Rattle.graphs.specs.Cuts.{turned}
 use Rattle.stories.specs.Steps.{flow_of}
 use Rattle.topology.specs.Matrices.{entry}
-use Rattle.topology.specs.Rows.{sign_of}
 use Rattle.assembly.specs.Frames.{gathered}
 use Rattle.assembly.proofs.Filling.{current_fixed, current-other}
 use Rattle.assembly.proofs.Reading.{asked}
@@ -15,10 +14,8 @@ returns-then-has g c parts x fr h u =
     let k = c.args.k in
     let row = c.turn_row-row.result in
     let is_fixed = asked k fr.fixed c.has.ensures c.if-has.true in
-    c.gather.ensures parts.link (λ j. turned (parts.row k j)) (flow_of o parts x) fr.link
-    (λ j s l i called.
-    let is : sign_of s ≡ entry row j = search rules in
-    is ∙ c.turn_row-row.ensures j ∙ ap (λ a. turned (entry a j)) c.cut.ensures ∙ ap turned (fr.rows k j (fr.fixed_in k is_fixed) l))
+    c.gather_row.ensures parts.link (λ j. turned (parts.row k j)) (flow_of o parts x) fr.link
+    (λ j l i. c.turn_row-row.ensures j ∙ ap (λ a. turned (entry a j)) c.cut.ensures ∙ ap turned (fr.rows k j (fr.fixed_in k is_fixed) l))
     (λ j y l i called.
     let is : m y ≡ get_or (map m c.args.flows.now) j o.nought = search rules in
     is ∙ h.each j l (fr.link_in j i))

@@ -1,9 +1,10 @@
-use Rattle.std.proofs.Common.{◌≡◌, false, rules}
-use Rattle.std.proofs.lemmas.Iterator.{first_from_Range}
-use Rattle.graphs.specs.Graph.{◌∈◌}
-use Rattle.topology.specs.Words.{bits}
-use Rattle.topology.proofs.Firsts.{is_first}
+use Rattle.std.proofs.Common.{◌≡◌, IfSome, rules}
+use Rattle.std.specs.Int.{trailing_zeros}
+use mir.Syntax.{w32}
+use Rattle.topology.proofs.Firsts.{lowest_is}
 use Rattle.topology.proofs.words.lowest.Goals as goal
 
 pub returns : goal.returns
-returns c = is_first (bits c.args.word) 0 32 c.find.result (first_from_Range _ _ _ c.find.result (λ x. x ∈ bits c.args.word) (λ x. bits c.args.word x ≡ false) c.find.ensures.ran (λ x q k. search rules) (λ x q k. search rules))
+returns c =
+    let at : IfSome c.then.result (λ k. k ≡ trailing_zeros w32 c.args.word) = search rules in
+    lowest_is c.args.word c.ranges.word.fits c.then.result c.then.ensures.variant at

@@ -2,7 +2,6 @@ use Rattle.std.proofs.Common.{◌≡◌, ◌+◌, map, get_or, rules, ap, ◌∙
 use Rattle.graphs.specs.Cuts.{turned}
 use Rattle.stories.specs.Assembly.{fed}
 use Rattle.topology.specs.Matrices.{entry}
-use Rattle.topology.specs.Rows.{sign_of}
 use Rattle.assembly.specs.Frames.{gathered}
 use Rattle.assembly.proofs.setting.Setting.feeds_of.Goals as goal
 
@@ -14,10 +13,8 @@ returns g c parts sets mt =
     let t = c.args.t in
     let fr = sets.frames in
     let row = c.turn_row-row.result in
-    c.gather.ensures parts.feeding (λ k. turned (parts.row t k)) parts.feed fr.feeding
-    (λ k s l i called.
-    let is : sign_of s ≡ entry row k = search rules in
-    is ∙ c.turn_row-row.ensures k ∙ ap (λ a. turned (entry a k)) c.cut.ensures ∙ ap turned (fr.rows t k mt l))
+    c.gather_row.ensures parts.feeding (λ k. turned (parts.row t k)) parts.feed fr.feeding
+    (λ k l i. c.turn_row-row.ensures k ∙ ap (λ a. turned (entry a k)) c.cut.ensures ∙ ap turned (fr.rows t k mt l))
     (λ k y l i called.
     let is : m y ≡ get_or (map m c.args.self.now.area.now) (32 + k) o.nought = search rules in
     is ∙ sets.holds.feed k l i)
