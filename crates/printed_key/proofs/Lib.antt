@@ -1,5 +1,13 @@
 pub mod Adding
+pub mod Figuring
 pub mod Keying
+pub mod Lines
 pub mod Looking
+pub mod Networking
+pub mod Parting
+pub mod Picking
+pub mod Refusing
+pub mod Rowing
 pub mod Stepping
 pub mod Taking
+pub mod Wording

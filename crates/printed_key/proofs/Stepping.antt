@@ -35,7 +35,7 @@ module _ {M : Type 0} where
   kept s rows false false false true (granted w) = refl
   kept s rows false false false false (granted w) = refl
 
-  plan_kept : (o : Ops M) (s : Sheet M) → (left s (one_step o s)).plan ≡ s.plan
+  pub plan_kept : (o : Ops M) (s : Sheet M) → (left s (one_step o s)).plan ≡ s.plan
   plan_kept o s =
       kept s (renewed_rows o s.plan s.rows (step_result o o.one s)) (not (eqb 32 32) || ltb 304 304) (not (o.is_sound o.one && may_divide o o.one))
       (not (solving o (step_parts o o.one s)).ok) (unsound o s.plan (step_result o o.one s)) (tree_of s.plan)

@@ -1,3 +1,4 @@
 pub mod Blocks
 pub mod Key
+pub mod Telling
 pub mod Text

@@ -14,6 +14,7 @@ mod network;
 mod readings;
 mod residues;
 mod stop;
+mod telling;
 mod words;
 
 pub use card_sheet::CardSheet;
@@ -25,6 +26,7 @@ use residues::push_residues;
 use sheet::Refusal;
 use std::alloc::{AllocError, Global};
 pub use stop::Stop;
+pub use telling::keys_tell;
 use topology::tree;
 
 // The longest input, in bytes.

@@ -1,0 +1,6 @@
+use Rattle.printed_key.proofs.Parting.{one_key}
+use Rattle.printed_key.proofs.Refusing.{ends}
+use Rattle.printed_key.proofs.telling.keys_tell.Goals as goal
+
+pub returns : goal.returns
+returns c = record { ends = ends; apart = one_key }
