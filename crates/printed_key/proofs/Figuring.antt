@@ -14,7 +14,7 @@ use Rattle.std.specs.Str.{bytes_eq}
 use lib.Ieee.{Float}
 use Rattle.arithmetic.specs.Binary64.{binary64_ops}
 use Rattle.arithmetic.specs.Residues.{Residue, residue, residue_ops}
-use Rattle.cards.specs.Reading.{Named}
+use Rattle.cards.specs.Reading.{Named, State}
 use Rattle.figures.specs.Readings.{signed, reading_of, reading_at}
 use Rattle.sheet.specs.declared.branch.Branch.{Branch}
 use Rattle.sheet.specs.declared.look.Look.{Look}
@@ -292,3 +292,14 @@ alike_by (Some e) (Some f) s t h = ap (λ ls. get_or ls 0 (fault_line e)) h
 pub alike_residues : (input other : List ℕ) → residue_lines input ≡ residue_lines other → AlikeBy (read_in residue_ops input).fault (read_in residue_ops other).fault (read_in residue_ops input).sheet (read_in residue_ops other).sheet
 unfolding residue_lines
 alike_residues input other e = alike_by _ _ _ _ e
+
+-- what is the same is alike
+pub alike_same : {X : Type 0} (a b : Answer X) → a ≡ b → Alike ◌≡◌ a b
+alike_same {X = X} a b e = subst (Alike ◌≡◌ a) e (own a)
+  where
+    own : (a : Answer X) → Alike ◌≡◌ a a
+    own (granted x) = refl
+    own (refused t) = refl
+
+pub alike_states : (s t : State Residue) → s ≡ t → AlikeBy s.fault t.fault s.sheet t.sheet
+alike_states s t e = subst (λ u. AlikeBy s.fault u.fault s.sheet u.sheet) e (alike_by s.fault s.fault s.sheet s.sheet refl)

@@ -1,4 +1,5 @@
 pub mod Adding
+pub mod Emptying
 pub mod Figuring
 pub mod Keying
 pub mod Lines

@@ -5,6 +5,7 @@ use Rattle.std.proofs.lemmas.Fmt.{decimal_injective}
 use Rattle.std.specs.Fmt.{digits}
 use Rattle.std.specs.List.{filter}
 use Rattle.cards.specs.Reading.{Named}
+use Rattle.sheet.specs.declared.plan.Plan.{Plan}
 use Rattle.sheet.specs.declared.refusal.Refusal.{Refusal}
 use Rattle.sheet.specs.declared.refusal.Refusal.TheVariants.{WrongLength, NoSuchPlace, PlaceTaken, PlaceEmpty, NoSuchKind, NoSuchNode, EndsMeet, BadValue, BadStart, NotASource, BadStepLength, VoltageLoop, CurrentCut, NoPivot, UnsoundResult, BadSlipRow, SlipAreaShort, ReadingOutOfRange, TraceNotFinite, TraceFull, NoSuchLetter, BadNumberField, ZeroDenominator, FieldLeftOver, InputTooLong}
 use Rattle.sheet.specs.Calls.{Sheet}
@@ -55,6 +56,11 @@ module _ (blocks : Blocks) where
   granted_lines false (Some f) s w e = cc
   granted_lines false None s w e = (e, ap (or_refused (blocks s)) e)
 
+granted_right : (b : Bool) (o : Option Named) (p : Plan) (w : ℕ) → refuse 25 b (tree_by o p) ≡ granted w → o ≡ None
+granted_right true o p w e = cc
+granted_right false (Some f) p w e = cc
+granted_right false None p w e = refl
+
 module _ (input : List ℕ) where
   abbrev blocks : Blocks
   blocks = key_blocks input
@@ -73,6 +79,10 @@ module _ (input : List ℕ) where
   pub granted_tree_of : (w : ℕ) → circuit_tree input ≡ granted w → tree_of (plan_of input) ≡ granted w
   unfolding circuit_tree
   granted_tree_of w e = (granted_lines blocks long (read input).fault (read input).sheet w e).0
+
+  pub granted_read : (w : ℕ) → circuit_tree input ≡ granted w → (read input).fault ≡ None
+  unfolding circuit_tree
+  granted_read w e = granted_right long (read input).fault (plan_of input) w e
 
   pub granted_blocks : (w : ℕ) → circuit_tree input ≡ granted w → key_lines input ≡ key_blocks input (read input).sheet w
   unfolding circuit_tree lines_by

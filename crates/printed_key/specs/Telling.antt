@@ -8,7 +8,7 @@
 -- SameFigures   the same at each place
 -- Alike         both granted and the same, or both refused in the same words
 -- AlikeBy       the same of what cards leave: both faulty in the same words, or alike after one step
--- Tells         the same branches, tree and rows, and, if there is a branch, the same readings and remainders
+-- Tells         the same branches, tree, loops and cuts, the same readings and the same remainders
 -- OneKey        what is true of two card files whose keys are one text: both refused, by one number, or they tell the same
 use Rattle.std.specs.Prelude.{◌≡◌, ℕ, ◌<◌, ◌≤◌, true, List, [], ◌∷◌, ◌==◌, length, Some, None, Option, codes, decimal, Float}
 use Rattle.std.specs.List.{filter}
@@ -69,10 +69,8 @@ pub record Tells (input other : List ℕ) : Type 0 where
   pub branches : (k : ℕ) → placed (plan_of input) k ≡ placed (plan_of other) k
   pub loops : (k : ℕ) → k < 32 → loop_row_of (plan_of input) k ≡ loop_row_of (plan_of other) k
   pub cuts : (k : ℕ) → k < 32 → cut_row_of (plan_of input) k ≡ cut_row_of (plan_of other) k
-  pub readings : (k : ℕ) → placed (plan_of input) k ≡ true → Alike ◌≡◌ (readings_after (read input).sheet) (readings_after (read other).sheet)
-  pub remainders :
-      (k : ℕ) → placed (plan_of input) k ≡ true →
-      AlikeBy (read_in residue_ops input).fault (read_in residue_ops other).fault (read_in residue_ops input).sheet (read_in residue_ops other).sheet
+  pub readings : Alike ◌≡◌ (readings_after (read input).sheet) (readings_after (read other).sheet)
+  pub remainders : AlikeBy (read_in residue_ops input).fault (read_in residue_ops other).fault (read_in residue_ops input).sheet (read_in residue_ops other).sheet
 
 pub record OneKey (input other : List ℕ) : Type 0 where
   pub refusals : (r q : Refusal) → circuit_tree input ≡ refused (means r) → circuit_tree other ≡ refused (means q) → (means r).number ≡ (means q).number
