@@ -1,12 +1,12 @@
 -- A card file whose circuit has no branch has no card, so that every arithmetic reads the blank sheet from it.
-use Rattle.std.proofs.Common.{◌≡◌, ◌≢◌, ◌<◌, ◌≤◌, ℕ, suc, Bool, true, false, cond, not, ◌&&◌, eqb, ltb, List, [], ◌∷◌, length, get_or, set, is_some, Some, None, Option, sym, refl, ap, ◌∙◌, subst, arith, lt-ltb, ltb-false, eqb-true, length-set, get_or-set_same, get_or-set_other}
-use Rattle.std.proofs.lemmas.Bool.{eqb-false, and_parts}
+use Rattle.std.proofs.Common.{◌≡◌, ◌<◌, ℕ, suc, Bool, true, false, cond, ◌&&◌, eqb, ltb, List, [], ◌∷◌, length, get_or, set, is_some, Some, None, Option, refl, ap, ◌∙◌, subst, arith, lt-ltb, ltb-false, eqb-true, length-set, get_or-set_same, get_or-set_other}
+use Rattle.std.proofs.lemmas.Bool.{eqb-false}
 use Rattle.arithmetic.specs.Ops.{Ops}
 use Rattle.cards.specs.Cards.{Checked, right, wrong, then, byte_of, lettered, opened, line_of}
 use Rattle.cards.specs.Fields.{Cutting, cutting}
 use Rattle.cards.specs.Following.{blank_sheet}
 use Rattle.cards.specs.Parts.{parts}
-use Rattle.cards.specs.Reading.{State, onward, laid, settled, lines_done, cards_read}
+use Rattle.cards.specs.Reading.{State, onward, laid, settled, lines_done}
 use Rattle.sheet.specs.declared.branch.Branch.{Branch}
 use Rattle.sheet.specs.declared.kind.Kind.{Kind}
 use Rattle.sheet.specs.declared.placement.Placement.{Placement}
@@ -14,8 +14,8 @@ use Rattle.sheet.specs.declared.plan.Plan.{Plan}
 use Rattle.sheet.specs.Calls.{Sheet, place, outcome}
 use Rattle.sheet.specs.Kinds.{kind_lettered}
 use Rattle.sheet.specs.Meanings.{meanings}
-use Rattle.sheet.specs.Plans.{branch_at, with_branch}
-use Rattle.sheet.specs.Refusals.{Answer, granted, refused, refuse, after, Told}
+use Rattle.sheet.specs.Plans.{with_branch}
+use Rattle.sheet.specs.Refusals.{Answer, granted, refused, refuse, after}
 use Rattle.topology.specs.Networks.{placed}
 use Rattle.printed_key.specs.Telling.{read_in}
 

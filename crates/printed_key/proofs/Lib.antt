@@ -1,4 +1,5 @@
 pub mod Adding
+pub mod Blanking
 pub mod Emptying
 pub mod Figuring
 pub mod Keying

@@ -1,5 +1,5 @@
 -- What the text of a key tells.
-use Rattle.std.proofs.Common.{◌≡◌, ◌<◌, ◌≤◌, ℕ, Bool, true, false, List, Some, None, Option, sym, refl, ap, ◌∙◌, arith}
+use Rattle.std.proofs.Common.{◌≡◌, ℕ, Bool, true, false, List, Some, None, Option, sym, refl, ap, ◌∙◌, arith}
 use Rattle.std.specs.Cmp.{both_ways}
 use Rattle.arithmetic.specs.Binary64.{binary64_ops}
 use Rattle.arithmetic.specs.Residues.{residue_ops}
@@ -59,13 +59,13 @@ module _ (input other : List ℕ) (v w : ℕ) (e : circuit_tree input ≡ grante
       let b = granted_tree_of other w f in
       let n = same_network input other (read input).sheet (read other).sheet v w a b (same_blocks same) in
       let back : (k : ℕ) → placed (plan_of other) k ≡ true → placed (plan_of input) k ≡ true = λ k h.
-        same_placed (plan_of other) (plan_of input) w b (a ∙ ap granted n.tree) k (sym (n.loops k (placed_below (plan_of other) k h))) h in
+      same_placed (plan_of other) (plan_of input) w b (a ∙ ap granted n.tree) k (sym (n.loops k (placed_below (plan_of other) k h))) h in
       let there : (k : ℕ) → placed (plan_of input) k ≡ true → placed (plan_of other) k ≡ true = λ k h.
-        same_placed (plan_of input) (plan_of other) w (a ∙ ap granted n.tree) b k (n.loops k (placed_below (plan_of input) k h)) h in
+      same_placed (plan_of input) (plan_of other) w (a ∙ ap granted n.tree) b k (n.loops k (placed_below (plan_of input) k h)) h in
       let branches : (k : ℕ) → placed (plan_of input) k ≡ placed (plan_of other) k = λ k. both_ways (placed (plan_of input) k) (placed (plan_of other) k) (there k) (back k) in
       let some : (k : ℕ) → placed (plan_of input) k ≡ true → Figured = λ k h.
-        let r = alike_steps input other (read input).sheet (read other).sheet k (placed_below (plan_of input) k h) h (there k h) n.rest in
-        (r.0, alike_residues input other r.1) in
+      let r = alike_steps input other (read input).sheet (read other).sheet k (placed_below (plan_of input) k h) h (there k h) n.rest in
+      (r.0, alike_residues input other r.1) in
       let none : ((k : ℕ) → placed (plan_of input) k ≡ false) → Figured = λ h. no_figures h (λ k. sym (branches k) ∙ h k) in
       let figured : Figured = some_or_none (placed (plan_of input)) (placed_below (plan_of input)) some none in
       record { tree = e ∙ ap granted n.tree ∙ sym f; branches = branches; loops = n.loops; cuts = n.cuts; readings = figured.0; remainders = figured.1 }

@@ -4,13 +4,14 @@
 -- read          the same in binary64
 -- plan_of       the plan that is read
 -- Ends          the key of a refused circuit is the one line of its refusal, and nothing follows
+-- Branchless    the key of a circuit without a branch is `tree` alone
 -- figures       the current and the voltage of a branch, as remainders
 -- SameFigures   the same at each place
 -- Alike         both granted and the same, or both refused in the same words
 -- AlikeBy       the same of what cards leave: both faulty in the same words, or alike after one step
 -- Tells         the same branches, tree, loops and cuts, the same readings and the same remainders
 -- OneKey        what is true of two card files whose keys are one text: both refused, by one number, or they tell the same
-use Rattle.std.specs.Prelude.{◌≡◌, ℕ, ◌<◌, ◌≤◌, true, List, [], ◌∷◌, ◌==◌, length, Some, None, Option, codes, decimal, Float}
+use Rattle.std.specs.Prelude.{◌≡◌, ℕ, ◌<◌, ◌≤◌, false, List, [], ◌∷◌, ◌==◌, length, Some, None, Option, codes, decimal, Float}
 use Rattle.std.specs.List.{filter}
 use Rattle.arithmetic.specs.Binary64.{binary64_ops}
 use Rattle.arithmetic.specs.Ops.{Ops}
@@ -44,6 +45,9 @@ pub record Ends (input : List ℕ) : Type 0 where
   pub tree : (t : Told) → length input ≤ 4096 → (read input).fault ≡ None → tree_of (plan_of input) ≡ refused t → key_text input ≡ line_text (refused_line t)
   pub lone : (t : Told) → circuit_tree input ≡ refused t → filter (λ b. b == 10) (key_text input) ≡ 10 ∷ []
   pub number : (t : Told) → circuit_tree input ≡ refused t → (ws : List Word) × (key_text input ≡ line_text (record { name = codes "refused"; words = decimal t.number ∷ ws }))
+
+abbrev pub Branchless : List ℕ → Type 0
+Branchless input = (w : ℕ) → circuit_tree input ≡ granted w → ((k : ℕ) → placed (plan_of input) k ≡ false) → key_text input ≡ codes "tree\n"
 
 abbrev pub figures : Option (Look Residue) → Option (ℕ × ℕ)
 figures None = None
