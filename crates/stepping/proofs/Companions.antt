@@ -17,9 +17,9 @@ pub kind_at_lem : (p : Plan) (k : ℕ) (b : Option Branch) → k < 32 → b ≡ 
 unfolding kind_at
 kind_at_lem p k b l e = ap kind_found e ∙ sym (ap (λ t. cond t (kind_found (branch_at p k)) None) (lt-ltb k 32 l))
 
-pub row_at_lem : {V M : Type 0} (o : Ops M) (mean : V → M) (rows : List (Row V)) (k : ℕ) (r : Row V) → k < length rows → r ≡ get_or rows k r → meant_row mean r ≡ row_at o (map (meant_row mean) rows) k
+pub row_at_lem : {V M : Type 0} (o : Ops M) (mean : V → M) (rows : List (Row V)) (k : ℕ) (d : Row V) → k < length rows → meant_row mean (get_or rows k d) ≡ row_at o (map (meant_row mean) rows) k
 unfolding row_at
-row_at_lem o mean rows k r l e = ap (meant_row mean) e ∙ sym (get_or-map (meant_row mean) rows k r _ l)
+row_at_lem o mean rows k d l = sym (get_or-map (meant_row mean) rows k d _ l)
 
 module _ {M : Type 0} (o : Ops M) (p : Plan) (h : M) (at : ℕ → Row M) (k : ℕ) (w : List M) where
   pub stored : (b : Branch) (r : Row M) → k < 32 → Some b ≡ branch_at p k → r ≡ at k →

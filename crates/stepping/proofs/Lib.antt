@@ -1,3 +1,4 @@
+pub mod Areas
 pub mod Companions
 pub mod Rows
 pub mod Clearing

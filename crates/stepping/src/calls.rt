@@ -18,18 +18,13 @@ use sheet::{Plan, Refusal, Row};
 use solver::solve;
 use topology::tree;
 
-// Rows and area stay the lent slices: their lengths are asked for once, in `step`, which refuses a wrong one by 1. A place
-// is asked to be below 32 where a row is read or written by it.
-
 // Companions, system and solution in the area; the number of unknowns, or none where a column has no pivot.
 fn solve_system<N: Arithmetic>(
     framed: &Framed,
-    rows: &[Row<N>],
+    rows: &[Row<N>; 32],
     h: N,
-    area: &mut [N],
+    area: &mut [N; 304],
 ) -> Option<u32>
-    requires area { length area.old ≡ 304 }
-    requires rows { length rows.now ≡ 32 }
     ensures { Worked N.ops (N.mean h) (record { plan = framed.now.plan.now; rows = map (meant_row N.mean) rows.now }) result (map N.mean area.new) }
 {
     clear(area);
@@ -56,12 +51,10 @@ fn is_step_length<N: Arithmetic>(h: N) -> bool
 // The step once its tree is known: 14, 15, or the new figures in the rows.
 fn advance<N: Arithmetic>(
     framed: &Framed,
-    rows: &mut [Row<N>],
+    rows: &mut [Row<N>; 32],
     h: N,
-    area: &mut [N],
+    area: &mut [N; 304],
 ) -> Result<(), Refusal>
-    requires area { length area.old ≡ 304 }
-    requires rows { length rows.old ≡ 32 }
     ensures { Settles N.ops N.mean (N.mean h) framed.now.plan.now rows.old (verdict result) rows.new }
 {
     let unknowns = solve_system(framed, rows, h, area).ok_or(Refusal::NoPivot)?;
@@ -86,12 +79,10 @@ fn advance<N: Arithmetic>(
 // The same, and the area ends as zeros each time.
 fn settle<N: Arithmetic>(
     framed: &Framed,
-    rows: &mut [Row<N>],
+    rows: &mut [Row<N>; 32],
     h: N,
-    area: &mut [N],
+    area: &mut [N; 304],
 ) -> Result<(), Refusal>
-    requires area { length area.old ≡ 304 }
-    requires rows { length rows.old ≡ 32 }
     ensures does { Settles N.ops N.mean (N.mean h) framed.now.plan.now rows.old (verdict result) rows.new }
     ensures area { area.new ≡ replicate 304 N.nil }
 {
@@ -125,5 +116,9 @@ pub fn step<N: Arithmetic>(
         plan,
         frame: Frame::of(plan, tree),
     };
-    settle(&framed, rows, h, &mut work[0..304])
+    // The test of both lengths comes first, since it shows that arrays so long fit in memory.
+    let (Some(rows), Some(area)) = (rows.as_mut_array::<32>(), work.first_chunk_mut::<304>()) else {
+        unreachable!()
+    };
+    settle(&framed, rows, h, area)
 }

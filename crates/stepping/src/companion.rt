@@ -50,9 +50,8 @@ fn backward_euler<N: Arithmetic>(kind: Kind, row: Row<N>, h: N) -> Companion<N>
 }
 
 // The companion of the branch k into the area, conductance at k and feed at 32 + k; a voltage source has none.
-fn store_companion<N: Arithmetic>(plan: &Plan, rows: &[Row<N>], h: N, area: &mut [N], k: u32)
+fn store_companion<N: Arithmetic>(plan: &Plan, rows: &[Row<N>; 32], h: N, area: &mut [N], k: u32)
     requires place { k < 32 }
-    requires rows { length rows.now ≡ 32 }
     ensures { map N.mean area.new ≡ companion_turn N.ops plan.now (N.mean h) (row_at N.ops (map (meant_row N.mean) rows.now)) k (map N.mean area.old) }
 {
     match plan.at(k) {
@@ -77,8 +76,12 @@ fn store<N: Arithmetic>(kind: Kind, row: Row<N>, h: N, area: &mut [N], k: usize)
 
 // The companions of all branches.
 #[tactic(auto, using(assembly::proofs::Turns::turns))]
-pub(crate) fn store_companions<N: Arithmetic>(plan: &Plan, rows: &[Row<N>], h: N, area: &mut [N])
-    requires { length rows.now ≡ 32 }
+pub(crate) fn store_companions<N: Arithmetic>(
+    plan: &Plan,
+    rows: &[Row<N>; 32],
+    h: N,
+    area: &mut [N],
+)
     ensures { map N.mean area.new ≡ through (companion_turn N.ops plan.now (N.mean h) (row_at N.ops (map (meant_row N.mean) rows.now))) 32 (map N.mean area.old) }
 {
     for k in 0..32 {

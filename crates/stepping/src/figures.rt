@@ -54,9 +54,8 @@ impl<'a, N: Arithmetic> Figures<'a, N> {
     }
 
     // The row of the branch k with its new figures, if it is placed.
-    fn renew_row(&self, plan: &Plan, rows: &mut [Row<N>], k: u32)
+    fn renew_row(&self, plan: &Plan, rows: &mut [Row<N>; 32], k: u32)
         requires place { k < 32 }
-        requires rows { length rows.old ≡ 32 }
         ensures rows { map (meant_row N.mean) rows.new ≡ renewed_at N.ops plan.now (map N.mean self.now.currents.now) (map N.mean self.now.voltages.now) k (map (meant_row N.mean) rows.old) }
         ensures gives { map given rows.new ≡ map given rows.old }
         ensures others { Others plan.now rows.old rows.new }
@@ -71,8 +70,7 @@ impl<'a, N: Arithmetic> Figures<'a, N> {
 
     // The rows of all placed branches with their new figures.
     #[tactic(auto, using(assembly::proofs::Turns::turns))]
-    pub(crate) fn renew_rows(&self, plan: &Plan, rows: &mut [Row<N>])
-        requires { length rows.old ≡ 32 }
+    pub(crate) fn renew_rows(&self, plan: &Plan, rows: &mut [Row<N>; 32])
         ensures rows { map (meant_row N.mean) rows.new ≡ through (renewed_at N.ops plan.now (map N.mean self.now.currents.now) (map N.mean self.now.voltages.now)) 32 (map (meant_row N.mean) rows.old) }
         ensures gives { map given rows.new ≡ map given rows.old }
         ensures others { Others plan.now rows.old rows.new }

@@ -10,7 +10,7 @@ returns-in-Some g c =
     let m = g.N.Arithmetic.mean in
     c.store.ensures
     ∙ stored o c.args.plan.now (m c.args.h) (row_at o (map (meant_row m) c.args.rows.now)) c.args.k (map m c.args.area.now) c.in-Some.branch _ (omega arith) c.in-Some.ensures
-    (row_at_lem o m c.args.rows.now c.args.k _ (omega arith) c.index-rows-k.is)
+    (row_at_lem o m c.args.rows.now c.args.k _ (omega (arith, c.type_inv.rows)))
 
 pub returns-in-None : goal.returns-in-None
 returns-in-None g c =
