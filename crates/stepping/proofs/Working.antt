@@ -40,10 +40,9 @@ map-replicate f zero x = refl
 map-replicate f (suc n) x = ap (λ l. f x ∷ l) (map-replicate f n x)
 
 -- a cleared area, by meaning
-pub blank_is : {V M : Type 0} (o : Ops M) (mean : V → M) (nil : V) (n : ℕ) (w : List V) → mean nil ≡ o.nought → n ≡ 304 → w ≡ replicate n nil → map mean w ≡ blank_area o
+pub blank_is : {V M : Type 0} (o : Ops M) (mean : V → M) (nil : V) (w : List V) → mean nil ≡ o.nought → w ≡ replicate 304 nil → map mean w ≡ blank_area o
 unfolding blank_area
-blank_is o mean nil n w z e d =
-    ap (map mean) d ∙ map-replicate mean n nil ∙ ap (replicate n) z ∙ ap (λ (k : ℕ). replicate k o.nought) e
+blank_is o mean nil w z d = ap (map mean) d ∙ map-replicate mean 304 nil ∙ ap (replicate 304) z
 
 -- a placed branch that is no voltage source feeds
 feeds : (f : Option Kind) → is_some f ≡ true → is_voltage f ≡ false → (is_passive f || is_current f) ≡ true

@@ -1,5 +1,5 @@
 // The companion models of one time step: current = conductance × voltage + feed.
-ghost use Rattle.std.specs.Prelude.{◌≡◌, ◌+◌, ◌<◌, map, length, if◌then◌else◌, Some, slice_set};
+ghost use Rattle.std.specs.Prelude.{◌≡◌, ◌+◌, ◌<◌, map, if◌then◌else◌, Some, slice_set};
 ghost use Rattle.sheet.specs.Meanings.{meant_row};
 ghost use Rattle.stepping.specs.Steps.{is_feeding, companion_turn};
 ghost use Rattle.stories.specs.Assembly.{through};

@@ -1,5 +1,5 @@
 // What a step finds for the branches, asked and written into the rows.
-ghost use Rattle.std.specs.Prelude.{◌≡◌, ◌<◌, map, length, slice_index_or, slice_set};
+ghost use Rattle.std.specs.Prelude.{◌≡◌, ◌<◌, map, slice_index_or, slice_set};
 ghost use Rattle.std.specs.List.{list_any, range_with_len};
 ghost use Rattle.sheet.specs.Meanings.{meant_row};
 ghost use Rattle.sheet.specs.declared.row.Row.{Row};
@@ -13,8 +13,8 @@ use sheet::{Plan, Row};
 use topology::is_placed;
 
 // A row with a new current and voltage.
-fn renew<N: Copy>(rows: &mut [Row<N>], k: usize, current: N, voltage: N)
-    requires { k < length rows.old }
+fn renew<N: Copy>(rows: &mut [Row<N>; 32], k: usize, current: N, voltage: N)
+    requires { k < 32 }
     ensures { (d : Row N) → rows.new ≡ slice_set rows.old k (renewed (slice_index_or rows.old k d) current voltage) }
 {
     let row = rows[k];
