@@ -26,7 +26,8 @@ fn renew<N: Copy>(rows: &mut [Row<N>; 32], k: usize, current: N, voltage: N)
 }
 
 // The currents and voltages of all branches, by place. The currents are found from all the voltages, so a list of pairs
-// would be made of these two lists.
+// would be made of these two lists. They are lent: a call that took two arrays of a generic type would owe that both fit
+// in memory together, and that proof did not close.
 #[derive(Clone, Copy)]
 pub(crate) struct Figures<'a, N> {
     pub currents: &'a [N],
@@ -53,7 +54,8 @@ impl<'a, N: Arithmetic> Figures<'a, N> {
         (0..32).any(|k| self.is_unsound(plan, k))
     }
 
-    // The row of the branch k with its new figures, if it is placed.
+    // The row of the branch k with its new figures, if it is placed. A type for a place below 32 would be made by the
+    // loop for this one call.
     fn renew_row(&self, plan: &Plan, rows: &mut [Row<N>; 32], k: u32)
         requires place { k < 32 }
         ensures rows { map (meant_row N.mean) rows.new ≡ renewed_at N.ops plan.now (map N.mean self.now.currents.now) (map N.mean self.now.voltages.now) k (map (meant_row N.mean) rows.old) }
