@@ -1,5 +1,5 @@
 -- The words of a key's lines are bare.
-use Rattle.std.proofs.Common.{◌≡◌, ℕ, ◌<◌, Bool, true, false, cond, ltb, List, [], ◌∷◌, ◌++◌, Some, None, Option, codes, decimal, refl, ltb-true, arith}
+use Rattle.std.proofs.Common.{◌≡◌, ℕ, ◌<◌, Bool, true, false, cond, ltb, List, [], ◌∷◌, ◌++◌, Some, None, Option, codes, refl, ltb-true, arith}
 use lib.Ieee.{Float}
 use Rattle.arithmetic.specs.Residues.{Residue, residue, residue_ops}
 use Rattle.cards.specs.Reading.{Named}
@@ -42,20 +42,20 @@ signed_bare_words s = listed_words (signed_words s) 32 (λ k. word_if (bits s.me
 
 tree_bare : (w : ℕ) → LineBare (tree_line w)
 unfolding all_above
-tree_bare w = record { name = above (codes "tree") refl; words = listed_words (member_words w) 32 (λ k. word_if (bits w k) (decimal k) (decimal_bare k)) }
+tree_bare w = record { name = above (codes "tree") refl; words = listed_words (member_words w) 32 (λ k. word_if (bits w k) _ (decimal_bare _)) }
 
-rows_bare : (name : Word) → Bare name → (k : ℕ) (a : Answer (Option Shown)) → Lines (row_lines name k a)
+rows_bare : (name : Word) → all_above name ≡ true → (k : ℕ) (a : Answer (Option Shown)) → Lines (row_lines name k a)
 rows_bare name h k (granted None) = tt
-rows_bare name h k (granted (Some s)) = (record { name = h; words = (decimal_bare k, signed_bare_words s) }, tt)
+rows_bare name h k (granted (Some s)) = (record { name = above name h; words = (decimal_bare k, signed_bare_words s) }, tt)
 rows_bare name h k (refused t) = tt
 
 network_bare : (p : Plan) (w : ℕ) → Lines (network_lines p w)
 unfolding all_above
 network_bare p w = (
   tree_bare w,
-  lines_more (listed (λ k. row_lines (codes "loop") k (loop_row_of p k)) 32) _
-      (listed_lines _ 32 (λ k. rows_bare (codes "loop") (above (codes "loop") refl) k (loop_row_of p k)))
-      (listed_lines _ 32 (λ k. rows_bare (codes "cut") (above (codes "cut") refl) k (cut_row_of p k))),
+  lines_more _ _
+      (listed_lines _ 32 (λ k. rows_bare _ refl k (loop_row_of p k)))
+      (listed_lines _ 32 (λ k. rows_bare _ refl k (cut_row_of p k))),
 )
 
 shown_bare : (ws : List ℕ) → Words (shown_words ws)
@@ -65,7 +65,7 @@ shown_bare (m ∷ a ∷ ws) = signed_bare_words (record { members = m; against =
 
 pub refused_bare : (t : Told) → LineBare (refused_line t)
 unfolding all_above
-refused_bare t = record { name = above (codes "refused") refl; words = (decimal_bare t.number, shown_bare t.words) }
+refused_bare t = record { name = above (refused_line t).name refl; words = (decimal_bare _, shown_bare t.words) }
 
 pub fault_bare : (f : Named) → LineBare (fault_line f)
 unfolding all_above
@@ -81,7 +81,7 @@ or_refused_bare f (refused t) h = (refused_bare t, tt)
 reading_bare : (k : ℕ) (o : Option ℤ) → Lines (reading_line k o)
 unfolding all_above
 reading_bare k None = tt
-reading_bare k (Some z) = (record { name = above (codes "mv") refl; words = (decimal_bare k, (signed_bare z, tt)) }, tt)
+reading_bare k (Some z) = (record { name = above (codes "mv") refl; words = search (decimal_bare, signed_bare) }, tt)
 
 steps_bare : (s : Sheet Float) → Lines (step_lines s)
 unfolding step_lines
@@ -90,7 +90,7 @@ steps_bare s = or_refused_bare reading_lines (readings_after s) (λ zs. listed_l
 remainder_bare : (k : ℕ) (o : Option (Look Residue)) → Lines (remainder_line k o)
 unfolding all_above
 remainder_bare k None = tt
-remainder_bare k (Some l) = (record { name = above (codes "res") refl; words = (decimal_bare k, (decimal_bare l.current.0, (decimal_bare l.voltage.0, tt))) }, tt)
+remainder_bare k (Some l) = (record { name = above (codes "res") refl; words = (decimal_bare _, (decimal_bare _, (decimal_bare _, tt))) }, tt)
 
 remainders_bare : (o : Option Named) (s : Sheet Residue) → Lines (or_fault_by residue_step_lines o s)
 remainders_bare None s = or_refused_bare remainder_lines (one_step residue_ops s) (λ t. listed_lines _ 32 (λ k. remainder_bare k (seen (residue 0) t.plan t.rows k)))
