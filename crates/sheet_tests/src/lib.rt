@@ -2,7 +2,7 @@
 #![tactic(auto)]
 
 use arithmetic::Arithmetic;
-use sheet::{Placement, Plan, Refusal, Row, fresh_rows};
+use sheet::{Placement, Plan, Refusal, Row};
 
 #[cfg(test)]
 mod tests;
@@ -31,8 +31,9 @@ pub fn placed_on<N: Arithmetic>(rows: &mut [Row<N>], placement: Placement<N>) ->
     number_of(plan.place(rows, placement))
 }
 
-// What placing answers on a blank sheet with 32 rows.
+// The same, by the placement's fields.
 pub fn placed<N: Arithmetic>(
+    rows: &mut [Row<N>],
     number: u32,
     kind: u32,
     tail: u32,
@@ -41,7 +42,7 @@ pub fn placed<N: Arithmetic>(
     start: N,
 ) -> u32 {
     placed_on(
-        &mut fresh_rows(),
+        rows,
         Placement {
             number,
             kind,

@@ -1,5 +1,5 @@
 use crate::{number_of, placed, placed_on, row_of};
-use sheet::{Kind, Placement, Plan};
+use sheet::{Kind, Placement, Plan, fresh_rows};
 use std::test::Fail;
 
 // Kinds by number, since numbers that are no kind are placed too.
@@ -56,9 +56,15 @@ fn numbers(rt: HostRuntime) {
         (0, RESISTOR, 3, 3, 7),
     ];
     for (number, kind, tail, head, expected) in table {
-        assert_eq!(rt; placed::<f64>(number, kind, tail, head, 2.0, 0.0), expected);
+        assert_eq!(rt;
+            placed::<f64>(&mut fresh_rows(), number, kind, tail, head, 2.0, 0.0),
+            expected
+        );
     }
-    assert_eq!(rt; placed::<f64>(0, RESISTOR, 3, 3, 0.0, 1.0), 7);
+    assert_eq!(rt;
+        placed::<f64>(&mut fresh_rows(), 0, RESISTOR, 3, 3, 0.0, 1.0),
+        7
+    );
 }
 
 // Values and starts in binary64.
@@ -80,7 +86,10 @@ fn values(rt: HostRuntime) {
         (CAPACITOR, 2.0, -3.0, 0),
     ];
     for (kind, value, start, expected) in table {
-        assert_eq!(rt; placed::<f64>(0, kind, 1, 0, value, start), expected);
+        assert_eq!(rt;
+            placed::<f64>(&mut fresh_rows(), 0, kind, 1, 0, value, start),
+            expected
+        );
     }
 }
 
@@ -95,7 +104,10 @@ fn remainders(rt: HostRuntime) {
         (INDUCTOR, 65535, 7, 0),
     ];
     for (kind, value, start, expected) in table {
-        assert_eq!(rt; placed::<u16>(0, kind, 1, 0, value, start), expected);
+        assert_eq!(rt;
+            placed::<u16>(&mut fresh_rows(), 0, kind, 1, 0, value, start),
+            expected
+        );
     }
 }
 
