@@ -26,8 +26,8 @@ fn renew<N: Copy>(rows: &mut [Row<N>; 32], k: usize, current: N, voltage: N)
 }
 
 // The currents and voltages of all branches, by place. The currents are found from all the voltages, so a list of pairs
-// would be made of these two lists. They are lent: a call that took two arrays of a generic type would owe that both fit
-// in memory together, and that proof did not close.
+// would be made of these two lists. They are lent: as two arrays of a generic type, each call would owe a proof by the
+// layout of the struct that it fits in memory.
 #[derive(Clone, Copy)]
 pub(crate) struct Figures<'a, N> {
     pub currents: &'a [N],
