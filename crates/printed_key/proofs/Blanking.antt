@@ -19,7 +19,7 @@ use Rattle.sheet.specs.Refusals.{granted, after}
 use Rattle.stories.specs.Networks.{kind_at, any}
 use Rattle.stories.specs.Assembly.{through, entry_of, fed, levelled, right_of, blank_area, with_companions, with_row, assembled}
 use Rattle.stories.specs.Steps.{row_at, parts_of, solving, voltage_of, flow_of, current_of, renewed_rows, unsound}
-use Rattle.stories.proofs.Granting.{chain}
+use Rattle.stories.proofs.Granting.{chain, granted_is}
 use Rattle.topology.specs.Networks.{graph_of, placed, class_at}
 use Rattle.topology.specs.Rows.{cut_from}
 use Rattle.topology.specs.Trees.{tree_set, voltage_loop, current_cut, tree_of, loop_row_of, cut_row_of}
@@ -85,14 +85,11 @@ tree_text : text_of (tree_line 0 ∷ []) ≡ codes "tree\n"
 unfolding text_of line_text spaced listed trees
 tree_text = refl
 
-same_word : (v w : ℕ) → granted v ≡ granted w → v ≡ w
-same_word v w e = cc
-
 pub blank_key : (input : List ℕ) → Branchless input
 blank_key input w e h =
     let b = no_cards binary64_ops binary64_ops input (granted_read input w e) h in
     let r = no_cards binary64_ops residue_ops input (granted_read input w e) h in
-    let tree : w ≡ 0 = same_word w 0 (sym (granted_tree_of input w e) ∙ ap (λ st. tree_of st.sheet.plan) b ∙ blank_tree) in
+    let tree : w ≡ 0 = granted_is w 0 (sym (granted_tree_of input w e) ∙ ap (λ st. tree_of st.sheet.plan) b ∙ blank_tree) in
     ap text_of
     (granted_blocks input w e
     ∙ ap (λ st. key_blocks input st.sheet w) b

@@ -1,6 +1,6 @@
 -- A card file whose circuit has no branch has no card, so that every arithmetic reads the blank sheet from it.
 use Rattle.std.proofs.Common.{◌≡◌, ◌<◌, ℕ, suc, Bool, true, false, cond, ◌&&◌, eqb, ltb, List, [], ◌∷◌, length, get_or, set, is_some, Some, None, Option, refl, ap, ◌∙◌, subst, arith, lt-ltb, ltb-false, eqb-true, length-set, get_or-set_same, get_or-set_other}
-use Rattle.std.proofs.lemmas.Bool.{eqb-false}
+use Rattle.std.proofs.lemmas.Bool.{eqb-false, both_ways}
 use Rattle.arithmetic.specs.Ops.{Ops}
 use Rattle.cards.specs.Cards.{Checked, right, wrong, then, byte_of, lettered, opened, line_of}
 use Rattle.cards.specs.Fields.{Cutting, cutting}
@@ -124,11 +124,7 @@ module _ {M : Type 0} (o : Ops M) where
   settled_branch n m p s (granted t) ls e all h =
       let q = placing_keeps o p s t all e in
       let yes : placed (lines_done o m ls t).sheet.plan p.number ≡ true = lines_keep o ls m p.number t q.all q.here in
-      true_no _ yes (h.1 p.number)
-    where
-      true_no : (b : Bool) → b ≡ true → b ≡ false → ⊥
-      true_no true f g = cc
-      true_no false f g = cc
+      both_ways _ (h.1 p.number) yes
   settled_branch n m p s (refused t) ls e all h = let no = h.0 in cc
 
   quiet_laid :

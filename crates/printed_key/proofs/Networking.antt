@@ -1,5 +1,6 @@
 -- The lines of a key tell its tree, its loops and its cuts.
 use Rattle.std.proofs.Common.{◌≡◌, ◌≢◌, ◌<◌, ℕ, Bool, true, false, cond, not, ◌&&◌, List, [], ◌∷◌, ◌++◌, get_or, Some, None, Option, codes, decimal, sym, refl, ap, ◌∙◌}
+use Rattle.std.proofs.lemmas.Bool.{and_from, and_left, and_right}
 use Rattle.std.proofs.lemmas.List.{append_cancel_left}
 use Rattle.std.specs.List.{filter}
 use Rattle.std.specs.Prelude.{ℤ, slice_index_or}
@@ -13,6 +14,7 @@ use Rattle.sheet.specs.declared.refusal.Shown.{Shown}
 use Rattle.sheet.specs.Calls.{Sheet}
 use Rattle.sheet.specs.Looks.{seen}
 use Rattle.sheet.specs.Refusals.{Answer, granted, refused, after}
+use Rattle.stories.proofs.Granting.{granted_is}
 use Rattle.topology.specs.Networks.{placed}
 use Rattle.topology.specs.Trees.{tree_of, loop_of, loop_row_of, cut_row_of}
 use Rattle.topology.specs.Words.{bits}
@@ -28,29 +30,17 @@ use Rattle.printed_key.proofs.Rowing.{same_members, good_loop, good_cut, same_li
 pub at : Word → ℕ → Line → Bool
 at name k l = bytes_eq l.name name && bytes_eq (get_or l.words 0 []) (decimal k)
 
-both_true : (b c : Bool) → b ≡ true → c ≡ true → (b && c) ≡ true
-both_true true c e f = f
-both_true false c e f = e
-
-left_false : (b c : Bool) → b ≡ false → (b && c) ≡ false
-left_false true c e = cc
-left_false false c e = refl
-
-right_false : (b c : Bool) → c ≡ false → (b && c) ≡ false
-right_false true c e = e
-right_false false c e = refl
-
 pub own_place : (name : Word) (k : ℕ) (ws : List Word) → at name k (record { name = name; words = decimal k ∷ ws }) ≡ true
 unfolding at
-own_place name k ws = both_true _ _ (same_bytes name) (same_bytes (decimal k))
+own_place name k ws = and_from _ _ (same_bytes name) (same_bytes (decimal k))
 
 pub other_place : (name : Word) (k j : ℕ) (ws : List Word) → j < 32 → k < 32 → j ≢ k → at name k (record { name = name; words = decimal j ∷ ws }) ≡ false
 unfolding at
-other_place name k j ws l m ne = right_false (bytes_eq name name) _ (other_decimal j k l m ne)
+other_place name k j ws l m ne = and_right (bytes_eq name name) _ (other_decimal j k l m ne)
 
 pub other_name : (name m : Word) (k : ℕ) (ws : List Word) → bytes_eq name m ≡ false → at m k (record { name = name; words = ws }) ≡ false
 unfolding at
-other_name name m k ws e = left_false (bytes_eq name m) _ e
+other_name name m k ws e = and_left (bytes_eq name m) _ e
 
 module _ (name : Word) where
   row_own : (k : ℕ) (a : Answer (Option Shown)) → Passes (at name k) (row_lines name k a)
@@ -171,13 +161,10 @@ loop_granted : (p : Plan) (w k : ℕ) → tree_of p ≡ granted w → loop_row_o
 unfolding loop_row_of
 loop_granted p w k a = ap (λ x. after x (λ tree. granted (loop_of p tree k))) a
 
-same_granted : (x y : Option Shown) → granted x ≡ granted y → x ≡ y
-same_granted x y e = cc
-
 placed_by : (p q : Plan) (w k : ℕ) (b : Bool) → bits w k ≡ b → tree_of q ≡ granted w → loop_of p w k ≡ loop_of q w k → placed p k ≡ true → placed q k ≡ true
 placed_by p q w k true e b same h = (is_tree q).placed k (sym (ap (λ S. S k) (granted_tree q w b).0) ∙ e)
 placed_by p q w k false e b same h = some_placed (placed p k) (bits w k) (placed q k) _ _ h e same
 
 pub same_placed : (p q : Plan) (w : ℕ) → tree_of p ≡ granted w → tree_of q ≡ granted w → (k : ℕ) → loop_row_of p k ≡ loop_row_of q k → placed p k ≡ true → placed q k ≡ true
 same_placed p q w a b k e h =
-    placed_by p q w k (bits w k) refl b (same_granted _ _ (sym (loop_granted p w k a) ∙ e ∙ loop_granted q w k b)) h
+    placed_by p q w k (bits w k) refl b (granted_is _ _ (sym (loop_granted p w k a) ∙ e ∙ loop_granted q w k b)) h

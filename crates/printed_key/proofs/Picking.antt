@@ -1,6 +1,6 @@
 -- What a test picks out of a list in stretches, one for each number.
 use Rattle.std.proofs.Common.{◌≡◌, ◌≢◌, ℕ, zero, suc, ◌<◌, Bool, true, false, cond, eqb, List, [], ◌∷◌, ◌++◌, decimal, sym, refl, ap, ◌∙◌, subst, append-nil, arith, eqb-true}
-use Rattle.std.proofs.lemmas.Bool.{eqb-false}
+use Rattle.std.proofs.lemmas.Bool.{eqb-false, false_from_ne_true}
 use Rattle.std.specs.List.{filter}
 use Rattle.std.specs.Str.{bytes_eq}
 use Rattle.std.proofs.lemmas.Fmt.{decimal_injective}
@@ -68,9 +68,5 @@ listed_same f g (suc n) h = ap (λ l. l ++ f n) (listed_same f g n (λ k l. h k 
 pub same_bytes : (w : List ℕ) → bytes_eq w w ≡ true
 same_bytes w = (bytes_eq-Decides w w).1 refl
 
-false_from : (b : Bool) → (b ≡ true → ⊥) → b ≡ false
-false_from true h = absurd (h refl)
-false_from false h = refl
-
 pub other_decimal : (j k : ℕ) → j < 32 → k < 32 → j ≢ k → bytes_eq (decimal j) (decimal k) ≡ false
-other_decimal j k l m ne = false_from (bytes_eq (decimal j) (decimal k)) (λ e. ne (decimal_injective j k (omega arith) (omega arith) ((bytes_eq-Decides (decimal j) (decimal k)).0 e)))
+other_decimal j k l m ne = false_from_ne_true (bytes_eq (decimal j) (decimal k)) (λ e. ne (decimal_injective j k (omega arith) (omega arith) ((bytes_eq-Decides (decimal j) (decimal k)).0 e)))

@@ -7,6 +7,7 @@ use Rattle.graphs.specs.Graph.{Sign, plus, none, minus}
 use Rattle.sheet.specs.declared.plan.Plan.{Plan}
 use Rattle.sheet.specs.declared.refusal.Shown.{Shown}
 use Rattle.sheet.specs.Refusals.{Answer, granted, refused, after}
+use Rattle.stories.proofs.Granting.{granted_is}
 use Rattle.topology.specs.Networks.{graph_of, placed}
 use Rattle.topology.specs.Rows.{marks, backs, shown}
 use Rattle.topology.specs.Trees.{tree_set, tree_of, loop_of, cut_of, loop_row_of, cut_row_of}
@@ -140,8 +141,5 @@ same_lines name k a (refused t) g h e = absurd h
 -- a tree's word
 pub tree_fits : (p : Plan) (w : ℕ) → tree_of p ≡ granted w → w < 2 ^ 32
 tree_fits p w e =
-    let same : word (tree_set p) ≡ w = granted_same (sym (proper_granted p (granted_tree p w e).1) ∙ e) in
+    let same : word (tree_set p) ≡ w = granted_is _ _ (sym (proper_granted p (granted_tree p w e).1) ∙ e) in
     subst (λ x. x < 2 ^ 32) same (those_less (tree_set p) 32)
-  where
-    granted_same : granted (word (tree_set p)) ≡ granted w → word (tree_set p) ≡ w
-    granted_same q = cc
