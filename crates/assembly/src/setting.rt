@@ -55,7 +55,8 @@ impl<'a, N: Arithmetic> Setting<'a, N> {
         self.rows.get(v as usize).map_or(N::zero(), |row| row.value)
     }
 
-    // A right side once the voltage source v has been taken to it, where v is one.
+    // A right side once the voltage source v has been taken to it, where v is one. That v is below 32 is asked here, since a
+    // type for it would be made by the loop for this one call.
     fn level_by(&self, t: u32, v: u32, sum: N) -> N
         requires { v < 32 }
         ensures { (c : Parts N.Meaning) → Sets N.ops N.mean c self.now.frame.now self.now.area.now self.now.rows.now → t ∈ c.tree → N.mean result ≡ (if c.fixed v then levelled N.ops c t v (N.mean sum) else N.mean sum) }

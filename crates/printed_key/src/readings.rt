@@ -27,7 +27,7 @@ fn reading_at(sheet: &CardSheet<f64>, k: u32) -> Result<Option<i32>, Refusal>
 fn readings(sheet: &CardSheet<f64>) -> Result<[Option<i32>; 32], Refusal>
     ensures { told result ≡ readings_below sheet.now.plan sheet.now.rows 32 }
 {
-    // Not by the library's `try_from_fn`, whose clause does not tie what a call saw to what the closure holds.
+    // Tried: the library's `try_from_fn`; its clause does not tie what a call saw to what the closure holds.
     let mut readings = [None; 32];
     for (k, reading) in readings.iter_mut().enumerate() {
         *reading = reading_at(sheet, k as u32)?;

@@ -19,7 +19,8 @@ use cards::read_cards;
 use sheet::{Plan, fresh_rows};
 use std::io::Read;
 
-// The longest card file that is read. This program stands on no key, where there is such a limit too.
+// The longest card file that is read. This program stands on no key, where there is such a limit too, and on no other program:
+// `steps` reads and steps a card file in as many lines, which a library for both would not make plainer.
 const LONGEST: u64 = 4096;
 
 fn show(rt: &HostRuntime, asked: Asked, cards: &[u8]) -> anyhow::Result<()> {

@@ -50,7 +50,7 @@ fn backward_euler<N: Arithmetic>(kind: Kind, row: Row<N>, h: N) -> Companion<N>
 }
 
 // The companion of the branch k into the area, conductance at k and feed at 32 + k; a voltage source has none. That k is
-// below 32 is asked here, since a type for it would be made by the loop for this one call.
+// below 32 is asked here, since a type for it would be made by the loop for this call and the one below it.
 fn store_companion<N: Arithmetic>(plan: &Plan, rows: &[Row<N>; 32], h: N, area: &mut [N], k: u32)
     requires place { k < 32 }
     ensures { map N.mean area.new ≡ companion_turn N.ops plan.now (N.mean h) (row_at N.ops (map (meant_row N.mean) rows.now)) k (map N.mean area.old) }

@@ -55,7 +55,7 @@ impl<'a, N: Arithmetic> Figures<'a, N> {
     }
 
     // The row of the branch k with its new figures, if it is placed. A type for a place below 32 would be made by the
-    // loop for this one call.
+    // loop for this call and the one below it.
     fn renew_row(&self, plan: &Plan, rows: &mut [Row<N>; 32], k: u32)
         requires place { k < 32 }
         ensures rows { map (meant_row N.mean) rows.new ≡ renewed_at N.ops plan.now (map N.mean self.now.currents.now) (map N.mean self.now.voltages.now) k (map (meant_row N.mean) rows.old) }
