@@ -1,6 +1,5 @@
 -- What the code of an assembly reads its parts from. Assumes nothing.
 --
--- nothing         a row without members
 -- cut_at f t      the row that a frame has for the tree branch t
 -- gathered        the values x k of the members k of S, each taken by its sign, to a, lower numbers first
 -- entered         the row of the unknown t without its right side
@@ -17,18 +16,15 @@ use Rattle.sheet.specs.declared.plan.Plan.{Plan}
 use Rattle.sheet.specs.declared.refusal.Shown.{Shown}
 use Rattle.sheet.specs.declared.row.Row.{Row}
 use Rattle.graphs.specs.Graph.{Set, ◌∈◌, count, Sign}
-use Rattle.graphs.specs.Cuts.{cut_row}
 use Rattle.linear.specs.Elimination.{cell}
 use Rattle.topology.specs.Matrices.{entry}
-use Rattle.topology.specs.Networks.{graph_of, placed}
-use Rattle.topology.specs.Rows.{shown}
+use Rattle.topology.specs.Networks.{placed}
+use Rattle.topology.specs.Rows.{nothing}
+use Rattle.topology.specs.Trees.{CutsOf}
 use Rattle.topology.specs.Words.{bits}
 use Rattle.stories.specs.Networks.{kind_at, is_passive, is_current, is_voltage}
 use Rattle.stories.specs.Assembly.{through, taken, Parts, entry_of, with_row}
 use Rattle.assembly.specs.declared.frame.Frame.{Frame}
-
-abbrev pub nothing : Shown
-nothing = record { members = 0; against = 0 }
 
 abbrev pub cut_at : Frame → ℕ → Shown
 cut_at f t = slice_index_or f.cuts t nothing
@@ -61,7 +57,7 @@ pub record FrameOf (p : Plan) (w : ℕ) (f : Frame) : Type 0 where
   pub tree : f.tree ≡ w
   pub unknown : bits f.unknown ≡ (λ k. bits w k && not (is_voltage (kind_at p k)))
   pub link : bits f.link ≡ (λ k. placed p k && not (bits w k))
-  pub cuts : (t : ℕ) → t < 32 → t ∈ bits w → cut_at f t ≡ shown (cut_row (graph_of p) (bits w) 32 t)
+  pub cuts : CutsOf p w f.cuts
 
 pub record Holds {M : Type 0} (o : Ops M) (c : Parts M) (w : List M) : Type 0 where
   pub conductance : (k : ℕ) → k < 32 → k ∈ c.passive → slice_index_or w k o.nought ≡ c.conductance k

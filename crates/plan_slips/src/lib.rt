@@ -5,7 +5,7 @@ ghost use Rattle.plan_slips.specs.Own.{OwnSlip};
 
 use sheet::{Plan, Refusal};
 use slips::{SlipWriter, entries_of};
-use topology::{loop_in, tree};
+use topology::{TreeRows, tree};
 
 #[cfg(test)]
 mod tests;
@@ -15,9 +15,10 @@ pub fn write_plan_slip(area: &mut [u8], plan: &Plan) -> Result<usize, Refusal>
     ensures { OwnSlip plan.now area.old area.new result }
 {
     let tree = tree(plan)?;
+    let rows = TreeRows::of(plan, tree);
     let mut writer = SlipWriter::open(area, tree);
     for k in 0..32 {
-        if let Some(row) = loop_in(plan, tree, k) {
+        if let Some(row) = rows.loop_in(k) {
             writer.row(k, &entries_of(row))?;
         }
     }

@@ -9,7 +9,7 @@ use crate::circuit::Circuit;
 use crate::words::{Members, Signed};
 use sheet::Shown;
 use std::alloc::AllocError;
-use topology::{cut_in, loop_in};
+use topology::TreeRows;
 
 // `loop 1 -0 +1 +2` for each place that has a row: the name, the place, and the signed members.
 fn push_rows<F: Fn(u32) -> Option<Shown>>(
@@ -33,14 +33,7 @@ pub(crate) fn push_network(text: &mut String, circuit: &Circuit) -> Result<(), A
     ensures { Adds result (string_bytes text.old) (string_bytes text.new) (text_of (network_lines circuit.now.sheet.plan circuit.now.tree)) }
 {
     writeln!(text, "tree{}", Members(circuit.tree))?;
-    push_rows(
-        text,
-        "loop",
-        |k| loop_in(&circuit.sheet.plan, circuit.tree, k),
-    )?;
-    push_rows(
-        text,
-        "cut",
-        |k| cut_in(&circuit.sheet.plan, circuit.tree, k),
-    )
+    let rows = TreeRows::of(&circuit.sheet.plan, circuit.tree);
+    push_rows(text, "loop", |k| rows.loop_in(k))?;
+    push_rows(text, "cut", |k| rows.cut_in(k))
 }

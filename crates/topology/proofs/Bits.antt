@@ -6,7 +6,7 @@ use lib.Bits.{bit_and, bit_or, bit_xor, or_shifted_r}
 use Rattle.std.proofs.lemmas.Nat.{mod_below, one_shl}
 use Rattle.std.proofs.lemmas.Nat.Bits.{bit_at_and, bit_at_or, bit_at_xor, bit_at_above, bit_at-pow_same, bit_at-pow_other, same_from_bits_below}
 use Rattle.std.specs.Int.{bit_at}
-use Rattle.std.proofs.lemmas.Bool.{eq-eqb, ne_eqb, cases_eq, cases_lt, lt-ltb, le-ltb, and_left, and_right, and_from, or_right}
+use Rattle.std.proofs.lemmas.Bool.{eq-eqb, ne_eqb, cases_eq, cases_lt, both_ways, lt-ltb, le-ltb, and_left, and_right, and_from, or_right}
 use Rattle.graphs.specs.Graph.{Set, with, without, Below}
 use Rattle.graphs.proofs.Sets.{under_less, under_same, same}
 use Rattle.topology.specs.Words.{bits, those, word, under}
@@ -51,6 +51,10 @@ bits_less a b k =
 pub bits_past : (w k n : ℕ) → w < 2 ^ n → n ≤ k → bits w k ≡ false
 unfolding bits
 bits_past w k n h le = ap (λ x. eqb x 1) (bit_at_above w n k h le)
+
+-- so a word has numbers below its length alone
+pub bits_below : (w : ℕ) → w < 2 ^ 32 → Below 32 (bits w)
+bits_below w h j m = elim (cases_lt j 32) [ inl l ↦ l | inr le ↦ absurd (both_ways (bits w j) (bits_past w j 32 h le) m) ]
 
 -- the word of one number
 pub bits-one : (k j : ℕ) → bits (2 ^ k) j ≡ eqb j k

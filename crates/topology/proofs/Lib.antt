@@ -1,10 +1,13 @@
 pub mod Bits
 pub mod Firsts
 pub mod Networks
+pub mod Growing
+pub mod Making
 pub mod Sweeping
 pub mod Gathering
 pub mod Answering
 pub mod Theory
 pub mod Summing
+pub mod ByCuts
 pub mod Showing
 pub mod Meaning

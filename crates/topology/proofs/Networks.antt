@@ -3,7 +3,7 @@ use Rattle.std.proofs.Common.{◌≡◌, ℕ, zero, suc, ◌+◌, ◌<◌, Bool,
 use Rattle.std.proofs.lemmas.List.{length-map, get_or-map}
 use Rattle.std.proofs.lemmas.List.FromFn.{get_or-range_with_len}
 use Rattle.std.proofs.lemmas.Bool.{lt-ltb, ltb-true, and_parts, eq-eqb, ne_eqb, cond-true, cond-false, both_ways}
-use Rattle.std.specs.List.{list_any}
+use Rattle.std.specs.List.{list_any, range_with_len}
 use mathlib.Core.Path.{fun_ext}
 use denote.Enum.Bare.{sameb, same_true, true_same}
 use Rattle.sheet.specs.contracts.kind.Kind.{the_type}
@@ -128,11 +128,8 @@ pub head_node : (p : Plan) (k : ℕ) → (graph_of p).head k < 16
 unfolding graph_of
 head_node p k = node_head (branch_at p k)
 
-abbrev numbers : List ℕ
-numbers = 0 ∷ 1 ∷ 2 ∷ 3 ∷ 4 ∷ 5 ∷ 6 ∷ 7 ∷ 8 ∷ 9 ∷ 10 ∷ 11 ∷ 12 ∷ 13 ∷ 14 ∷ 15 ∷ []
-
 -- with no branch merged each node is its own label
-pub labelled_none : (g : Graph) (S : Set) → Labelled g S 0 numbers
+pub labelled_none : (g : Graph) (S : Set) → Labelled g S 0 (range_with_len 0 16)
 unfolding label
 labelled_none g S = record {
   all = refl;

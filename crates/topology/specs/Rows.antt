@@ -3,6 +3,7 @@
 -- sign_of      the sign that a value of the program is
 -- marks        plus or minus
 -- backs        minus
+-- nothing      a row without members
 -- shown f      the row f: the word of its members, and that of those with minus
 -- cut_from     the cut of the nodes that the members of S join with the node x
 -- Gathered     the members and those with minus, as far as the places below n go
@@ -30,6 +31,9 @@ abbrev pub backs : graphs.Sign → Bool
 backs plus = false
 backs none = false
 backs minus = true
+
+abbrev pub nothing : Shown
+nothing = record { members = 0; against = 0 }
 
 abbrev pub shown : (ℕ → graphs.Sign) → Shown
 shown f = record { members = word (λ k. marks (f k)); against = word (λ k. backs (f k)) }

@@ -1,6 +1,7 @@
 // Labels: the least node that the branches of a word join with each node.
 ghost use Rattle.std.specs.Prelude.{◌≡◌, map, slice_index};
-ghost use Rattle.graphs.specs.Labels.{merge, joins};
+ghost use Rattle.std.specs.List.{range_with_len};
+ghost use Rattle.graphs.specs.Labels.{merge};
 ghost use Rattle.topology.specs.Networks.{graph_of, Labelled, alike};
 ghost use Rattle.topology.specs.Words.{bits};
 
@@ -22,13 +23,20 @@ fn merged(p: u8, q: u8, label: u8) -> u8
 }
 
 impl Labels {
+    // Each node alone.
+    pub(crate) fn apart() -> Labels
+        ensures { result.of ≡ range_with_len 0 16 }
+    {
+        Labels {
+            of: [0, 1, 2, 3, 4, 5, 6, 7, 8, 9, 10, 11, 12, 13, 14, 15],
+        }
+    }
+
     // The least node that the branches of the word join each node with.
     pub(crate) fn joined(plan: &Plan, word: u32) -> Labels
         ensures { Labelled (graph_of plan.now) (bits word) 32 result.of }
     {
-        let mut labels = Labels {
-            of: [0, 1, 2, 3, 4, 5, 6, 7, 8, 9, 10, 11, 12, 13, 14, 15],
-        };
+        let mut labels = Labels::apart();
         for k in 0..32 {
             if has(word, k) {
                 labels.join(tail(plan, k), head(plan, k));
@@ -38,7 +46,7 @@ impl Labels {
     }
 
     // The labels of the two nodes become the smaller of the two.
-    fn join(&mut self, a: Node, b: Node)
+    pub(crate) fn join(&mut self, a: Node, b: Node)
         ensures { self.new.of ≡ map (merge (slice_index self.old.of a.number) (slice_index self.old.of b.number)) self.old.of }
     {
         let p = self.of[a.number];
@@ -54,11 +62,4 @@ impl Labels {
     {
         self.of[a.number] == self.of[b.number]
     }
-}
-
-// The branches of the word join the ends of the branch k.
-pub(crate) fn closes(plan: &Plan, word: u32, k: u32) -> bool
-    ensures { result ≡ joins (graph_of plan.now) (bits word) 32 ((graph_of plan.now).tail k) ((graph_of plan.now).head k) }
-{
-    Labels::joined(plan, word).are_alike(tail(plan, k), head(plan, k))
 }

@@ -13,8 +13,8 @@ mod sign;
 mod words;
 
 pub use ascending::{Members, members_of};
-pub use calls::{cut_in, cut_row, incidence, loop_in, loop_row, row_laws, tree};
+pub use calls::{cut_row, incidence, loop_row, row_laws, tree};
 pub use network::{branches_of, is_placed, no_current_sources, placed_branches, voltage_sources};
-pub use rows::{cut_of_branch, sign_at};
+pub use rows::{TreeRows, sign_at};
 pub use sign::Sign;
 pub use words::{common, either, has, less};

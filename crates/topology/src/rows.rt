@@ -1,18 +1,21 @@
 // Rows of signs: cuts of nodes, and loops along a branch.
-ghost use Rattle.std.specs.Prelude.{◌≡◌, ℕ, ◌<◌};
+ghost use Rattle.std.specs.Prelude.{◌≡◌, ℕ, ◌<◌, slice_index_or};
 ghost use Rattle.graphs.specs.Cuts.{diff, leaves, cut_row, loop_row};
+ghost use Rattle.graphs.specs.Graph.{◌∈◌};
 ghost use Rattle.graphs.specs.Graph as graphs;
 ghost use Rattle.topology.specs.Matrices.{entry};
 ghost use Rattle.topology.specs.Networks.{graph_of, alike};
 ghost use Rattle.topology.specs.declared.sign.Sign.{Sign};
-ghost use Rattle.topology.specs.Rows.{sign_of, shown, cut_from};
+ghost use Rattle.topology.specs.Rows.{sign_of, nothing, shown, cut_from};
+ghost use Rattle.topology.specs.Trees.{loop_of, cut_of, CutsOf};
 ghost use Rattle.topology.specs.Words.{bits};
 
 use crate::labels::Labels;
-use crate::network::{Node, head, tail};
+use crate::network::{Node, head, is_placed, tail};
 use crate::sign::Sign;
 use crate::words::{has, insert_if, remove};
 use sheet::{Plan, Shown};
+use std::array::from_fn;
 
 // Plus for the first alone, minus for the second alone.
 pub(crate) fn difference(first: bool, second: bool) -> Sign
@@ -71,31 +74,100 @@ pub(crate) fn cut(plan: &Plan, word: u32, node: Node) -> Shown
     row_of(|k| crosses(plan, &labels, node, k))
 }
 
-// The cut row of a branch t of the tree: the cut of the tail's side when t is taken out. For a caller that has the
-// tree and wants many rows.
-pub fn cut_of_branch(plan: &Plan, tree: u32, t: u32) -> Shown
-    ensures { result ≡ shown (cut_row (graph_of plan.now) (bits tree) 32 t) }
+// The cut row of a member t of the word: the cut of the tail's side when t is taken out.
+fn cut_of_branch(plan: &Plan, word: u32, t: u32) -> Shown
+    ensures { result ≡ shown (cut_row (graph_of plan.now) (bits word) 32 t) }
 {
-    cut(plan, remove(tree, t), tail(plan, t))
+    cut(plan, remove(word, t), tail(plan, t))
 }
 
-// How the loop of the branch k with branches of the word passes the branch j: against those whose tail's side k leaves.
-fn passes(plan: &Plan, word: u32, k: u32, j: u32) -> Sign
-    ensures { sign_of result ≡ loop_row (graph_of plan.now) (bits word) 32 k j }
+// No member for another number.
+fn cut_if(plan: &Plan, word: u32, t: u32) -> Shown
+    ensures { t ∈ bits word → result ≡ shown (cut_row (graph_of plan.now) (bits word) 32 t) }
 {
-    if j == k {
-        return Sign::Plus;
+    if has(word, t) {
+        cut_of_branch(plan, word, t)
+    } else {
+        Shown::default()
     }
-    if !has(word, j) {
-        return Sign::Zero;
-    }
-    let labels = Labels::joined(plan, remove(word, j));
-    -crosses(plan, &labels, tail(plan, j), k)
 }
 
-// The loop of the branch k with branches of the word, run along k.
-pub(crate) fn loop_along(plan: &Plan, word: u32, k: u32) -> Shown
-    ensures { result ≡ shown (loop_row (graph_of plan.now) (bits word) 32 k) }
+// The cut rows of the members of a word, each worked out once.
+fn cuts_of(plan: &Plan, word: u32) -> [Shown; 32]
+    ensures { CutsOf plan.now word result }
 {
-    row_of(|j| passes(plan, word, k, j))
+    from_fn(|t| cut_if(plan, word, t as u32))
+}
+
+// The cut rows of a tree by place; its loop rows are read off them. Any set of branches may stand for the tree.
+#[derive(Clone, Copy)]
+pub struct TreeRows<'a> {
+    pub plan: &'a Plan,
+    pub tree: u32,
+    pub cuts: [Shown; 32],
+    pub ghost are: { CutsOf plan.now tree cuts },
+}
+
+impl<'a> TreeRows<'a> {
+    pub fn of(plan: &'a Plan, tree: u32) -> TreeRows<'a>
+        ensures plan { result.plan.now ≡ plan.now }
+        ensures tree { result.tree ≡ tree }
+    {
+        TreeRows {
+            plan,
+            tree,
+            cuts: cuts_of(plan, tree),
+        }
+    }
+
+    // What stands at a place: the cut row of a branch of the tree.
+    pub fn cut(&self, t: u32) -> Shown
+        ensures { result ≡ slice_index_or self.now.cuts t nothing }
+    {
+        self.cuts.get(t as usize).copied().unwrap_or_default()
+    }
+
+    // How the loop of the branch k passes the branch j: against those whose cut k leaves.
+    fn passes(&self, k: u32, j: u32) -> Sign
+        requires { k < 32 }
+        ensures { sign_of result ≡ loop_row (graph_of self.now.plan.now) (bits self.now.tree) 32 k j }
+    {
+        if j == k {
+            return Sign::Plus;
+        }
+        if !has(self.tree, j) {
+            return Sign::Zero;
+        }
+        -sign_at(self.cut(j), k)
+    }
+
+    // The loop of the branch k with branches of the tree, run along k.
+    pub(crate) fn loop_along(&self, k: u32) -> Shown
+        requires { k < 32 }
+        ensures { result ≡ shown (loop_row (graph_of self.now.plan.now) (bits self.now.tree) 32 k) }
+    {
+        row_of(|j| self.passes(k, j))
+    }
+
+    // The loop row of a link, a placed branch outside the tree; none for another number.
+    pub fn loop_in(&self, number: u32) -> Option<Shown>
+        ensures { result ≡ loop_of self.now.plan.now self.now.tree number }
+    {
+        if is_placed(self.plan, number) && !has(self.tree, number) {
+            Some(self.loop_along(number))
+        } else {
+            None
+        }
+    }
+
+    // The cut row of a branch of the tree; none for another number.
+    pub fn cut_in(&self, number: u32) -> Option<Shown>
+        ensures { result ≡ cut_of self.now.plan.now self.now.tree number }
+    {
+        if has(self.tree, number) {
+            Some(self.cut(number))
+        } else {
+            None
+        }
+    }
 }

@@ -5,4 +5,4 @@ use Rattle.topology.specs.Words.{bits}
 use Rattle.topology.proofs.keeping.kept_branches.Given as goal
 
 abbrev pub invariant-loop-kind : goal.invariant-loop-kind
-invariant-loop-kind l = bits l.word ≡ greedy (graph_of l.plan) 32 (in_order (class_at l.plan) (placed l.plan) 32 l.kind-index)
+invariant-loop-kind l = (l.kept.plan.now ≡ l.plan) × (bits l.kept.word ≡ greedy (graph_of l.plan) 32 (in_order (class_at l.plan) (placed l.plan) 32 l.kind-index))

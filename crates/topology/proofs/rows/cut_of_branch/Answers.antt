@@ -9,5 +9,5 @@ use Rattle.topology.proofs.rows.cut_of_branch.Goals as goal
 pub returns : goal.returns
 returns c =
     let g = graph_of c.args.plan.now in
-    let cuts : c.cut.result ≡ cut_from g (without (bits c.args.tree) c.args.t) (g.tail c.args.t) = cc in
-    cuts ∙ cut-from-side g (bits c.args.tree) c.args.t
+    let cuts : c.cut.result ≡ cut_from g (without (bits c.args.word) c.args.t) (g.tail c.args.t) = cc in
+    cuts ∙ cut-from-side g (bits c.args.word) c.args.t

@@ -1,6 +1,8 @@
-use Rattle.std.proofs.Common.{refl, ap, ◌∙◌, ap₂}
+use Rattle.std.proofs.Common.{refl, ap, ◌∙◌, ap₂, subst}
 use mathlib.Core.Path.{fun_ext}
 use Rattle.graphs.specs.Graph.{Set}
+use Rattle.sheet.specs.declared.plan.Plan.{Plan}
+use Rattle.topology.specs.Trees.{CutsOf}
 use Rattle.topology.specs.Words.{bits, except}
 use Rattle.assembly.proofs.Framing.{passive_is, feeding_is, fixed_is}
 use Rattle.assembly.proofs.frame.Frame.of.Goals as goal
@@ -15,5 +17,5 @@ returns c =
       tree = refl;
       unknown = c.less-3.ensures ∙ ap (except (bits c.args.tree)) (c.voltage_sources-fixed.ensures ∙ fun_ext (fixed_is p));
       link = c.less-4.ensures ∙ ap (λ (S : Set). except S (bits c.args.tree)) c.placed_branches-placed.ensures;
-      cuts = c.cut_rows.ensures;
+      cuts = subst (λ (q : Plan). CutsOf q c.args.tree c.of.result.cuts) c.of.ensures.plan (subst (λ t. CutsOf c.of.result.plan.now t c.of.result.cuts) c.of.ensures.tree c.of.result.are);
     }

@@ -8,7 +8,7 @@ use Rattle.topology.proofs.labels.Labels.joined.Goals as goal
 use Rattle.topology.proofs.labels.Labels.joined.Goals.{then-has, else-has}
 
 pub loop-k-init : goal.loop-k-init
-loop-k-init c = labelled_none (graph_of c.args.plan.now) (bits c.args.word)
+loop-k-init c = subst (Labelled (graph_of c.args.plan.now) (bits c.args.word) 0) (sym c.apart-labels.ensures) (labelled_none (graph_of c.args.plan.now) (bits c.args.word))
 
 pub loop-k-preserved : goal.loop-k-preserved
 loop-k-preserved c =

@@ -1,0 +1,6 @@
+use Rattle.std.proofs.Common.{sym, ◌∙◌}
+use Rattle.topology.proofs.Networks.{placed_below}
+use Rattle.topology.proofs.rows.TreeRows.loop_in.Goals as goal
+
+pub loop_along-requires : goal.loop_along-requires
+loop_along-requires c = placed_below c.args.self.now.plan.now c.args.number (sym c.is_placed.ensures ∙ c.if-is_placed.true)
