@@ -9,5 +9,6 @@ pub mod Answering
 pub mod Theory
 pub mod Summing
 pub mod ByCuts
+pub mod Crossing
 pub mod Showing
 pub mod Meaning

@@ -10,6 +10,7 @@ mod labels;
 mod network;
 mod rows;
 mod sign;
+mod stars;
 mod words;
 
 pub use ascending::{Members, members_of};

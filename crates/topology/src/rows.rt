@@ -1,19 +1,21 @@
 // Rows of signs: cuts of nodes, and loops along a branch.
 ghost use Rattle.std.specs.Prelude.{◌≡◌, ℕ, ◌<◌, slice_index_or};
-ghost use Rattle.graphs.specs.Cuts.{diff, leaves, cut_row, loop_row};
-ghost use Rattle.graphs.specs.Graph.{◌∈◌};
+ghost use Rattle.graphs.specs.Cuts.{diff, cut_row, loop_row};
+ghost use Rattle.graphs.specs.Graph.{Set, ◌∈◌};
 ghost use Rattle.graphs.specs.Graph as graphs;
 ghost use Rattle.topology.specs.Matrices.{entry};
-ghost use Rattle.topology.specs.Networks.{graph_of, alike};
+ghost use Rattle.topology.specs.Networks.{graph_of};
+ghost use Rattle.topology.specs.Stars.{StarsOf};
 ghost use Rattle.topology.specs.declared.sign.Sign.{Sign};
 ghost use Rattle.topology.specs.Rows.{sign_of, nothing, shown, cut_from};
 ghost use Rattle.topology.specs.Trees.{loop_of, cut_of, CutsOf};
-ghost use Rattle.topology.specs.Words.{bits};
+ghost use Rattle.topology.specs.Words.{bits, under};
 
 use crate::labels::Labels;
-use crate::network::{Node, head, is_placed, tail};
+use crate::network::{Node, is_placed, tail};
 use crate::sign::Sign;
-use crate::words::{has, insert_if, remove};
+use crate::stars::{Stars, reach};
+use crate::words::{either, has, insert_if, less, remove};
 use sheet::{Plan, Shown};
 use std::array::from_fn;
 
@@ -56,37 +58,42 @@ pub fn sign_at(row: Shown, k: u32) -> Sign
     }
 }
 
-// How a branch stands to the nodes that have the label of one node: it leaves them, enters them, or neither.
-fn crosses(plan: &Plan, labels: &Labels, node: Node, k: u32) -> Sign
-    ensures { sign_of result ≡ leaves (graph_of plan.now) (alike labels.now.of node.number) k }
+// The row of the branches that leave a set of nodes and do not enter it, and of those that enter it alone.
+fn across(leaving: u32, entering: u32) -> Shown
+    ensures { (a b : Set) → bits leaving ≡ under a 32 → bits entering ≡ under b 32 → result ≡ shown (λ k. diff (a k) (b k)) }
 {
-    difference(
-        labels.are_alike(node, tail(plan, k)),
-        labels.are_alike(node, head(plan, k)),
+    let against = less(entering, leaving);
+    Shown {
+        members: either(less(leaving, entering), against),
+        against,
+    }
+}
+
+// The cut of the nodes that the branches of the word join with one node. The branches at each node are handed over, since
+// a caller may want many cuts.
+fn cut_at(plan: &Plan, stars: &Stars, word: u32, node: Node) -> Shown
+    ensures { StarsOf (graph_of plan.now) stars.now.leaving stars.now.entering → result ≡ cut_from (graph_of plan.now) (bits word) node.number }
+{
+    let labels = Labels::joined(plan, word);
+    across(
+        reach(&stars.leaving, &labels, node),
+        reach(&stars.entering, &labels, node),
     )
 }
 
-// The cut of the nodes that the branches of the word join with one node.
+// The same for a single cut.
 pub(crate) fn cut(plan: &Plan, word: u32, node: Node) -> Shown
     ensures { result ≡ cut_from (graph_of plan.now) (bits word) node.number }
 {
-    let labels = Labels::joined(plan, word);
-    row_of(|k| crosses(plan, &labels, node, k))
+    cut_at(plan, &Stars::of(plan), word, node)
 }
 
-// The cut row of a member t of the word: the cut of the tail's side when t is taken out.
-fn cut_of_branch(plan: &Plan, word: u32, t: u32) -> Shown
-    ensures { result ≡ shown (cut_row (graph_of plan.now) (bits word) 32 t) }
-{
-    cut(plan, remove(word, t), tail(plan, t))
-}
-
-// No member for another number.
-fn cut_if(plan: &Plan, word: u32, t: u32) -> Shown
-    ensures { t ∈ bits word → result ≡ shown (cut_row (graph_of plan.now) (bits word) 32 t) }
+// The cut row of a member t of the word: the cut of the tail's side when t is taken out. No member for another number.
+fn cut_if(plan: &Plan, stars: &Stars, word: u32, t: u32) -> Shown
+    ensures { StarsOf (graph_of plan.now) stars.now.leaving stars.now.entering → t ∈ bits word → result ≡ shown (cut_row (graph_of plan.now) (bits word) 32 t) }
 {
     if has(word, t) {
-        cut_of_branch(plan, word, t)
+        cut_at(plan, stars, remove(word, t), tail(plan, t))
     } else {
         Shown::default()
     }
@@ -96,7 +103,8 @@ fn cut_if(plan: &Plan, word: u32, t: u32) -> Shown
 fn cuts_of(plan: &Plan, word: u32) -> [Shown; 32]
     ensures { CutsOf plan.now word result }
 {
-    from_fn(|t| cut_if(plan, word, t as u32))
+    let stars = Stars::of(plan);
+    from_fn(|t| cut_if(plan, &stars, word, t as u32))
 }
 
 // The cut rows of a tree by place; its loop rows are read off them. Any set of branches may stand for the tree.
