@@ -11,7 +11,7 @@ use Rattle.graphs.proofs.Walks.{one_along, through, into}
 use Rattle.graphs.proofs.Labels.{label_ends, walk_joins, not-joins}
 use Rattle.graphs.proofs.Trails.{free_independent, free_less, loop_along}
 use Rattle.graphs.proofs.Rank.{rank}
-use Rattle.graphs.proofs.Greedy.{kept_spans, listed-append, greedy-listed, greedy_front, greedy_front_same, greedy_tree}
+use Rattle.graphs.proofs.Greedy.{kept_spans, listed-append, greedy-listed, greedy_front, greedy_tree}
 
 -- members by class
 pub up_to_in : (class : ℕ → ℕ) (c : ℕ) (S : Set) (k : ℕ) → k ∈ S → class k ≤ c → k ∈ up_to class c S
@@ -67,15 +67,6 @@ parted class c (k ∷ ks) s = go (cases_lt c (class k)) (parted class c ks s.1)
     go : (c < class k) ⊎ (class k ≤ c) → Parted class c ks → Parted class c (k ∷ ks)
     go (inl l) p = record { low = []; high = k ∷ ks; whole = refl; lows = λ j h. absurd (false≢true h); highs = λ j h. at (λ i. c < class i) j ks l (λ i. omega (arith, s.0 j i)) h }
     go (inr l) p = record { low = k ∷ p.low; high = p.high; whole = ap (λ is. k ∷ is) p.whole; lows = λ j h. at (λ i. class i ≤ c) j p.low l (p.lows j) h; highs = p.highs }
-
--- of the whole, the members of the classes up to c are what is kept of the front with those classes
-pub front_up_to : (g : Graph) (m : ℕ) (fs rs : List ℕ) (class : ℕ → ℕ) (c : ℕ) → Below m (listed (fs ++ rs)) → ((j : ℕ) → j ∈ listed fs → class j ≤ c) → ((j : ℕ) → j ∈ listed rs → c < class j) → (k : ℕ) → up_to class c (greedy g m (fs ++ rs)) k ≡ greedy g m fs k
-front_up_to g m fs rs class c l lows highs k = same (up_to class c (greedy g m (fs ++ rs)) k) (greedy g m fs k) there (λ h. up_to_in class c (greedy g m (fs ++ rs)) k (greedy_front g m fs rs k h) (lows k (greedy-listed g m fs k h)))
-  where
-    there : k ∈ up_to class c (greedy g m (fs ++ rs)) → k ∈ greedy g m fs
-    there h =
-        let i : k ∈ greedy g m (fs ++ rs) = up_to_less class c (greedy g m (fs ++ rs)) k h in
-        elim (or_cases (listed fs k) (listed rs k) (sym (listed-append fs rs k) ∙ greedy-listed g m (fs ++ rs) k i)) [ inl u ↦ sym (greedy_front_same g m fs rs l k) ∙ and_from (greedy g m (fs ++ rs) k) (listed fs k) i u | inr u ↦ absurd (omega (arith, highs k u, up_to_class class c (greedy g m (fs ++ rs)) k h)) ]
 
 module _ (g : Graph) (m : ℕ) (P : Set) (ks : List ℕ) (class : ℕ → ℕ) (below : Below m P) (lists : (k : ℕ) → listed ks k ≡ P k) (sorted : Sorted class ks) where
   -- the kept branches of the first classes join the ends of every branch of those classes

@@ -2,13 +2,13 @@
 use Rattle.std.proofs.Common.{◌≡◌, ℕ, ◌<◌, ◌≤◌, Bool, true, false, cond, ◌||◌, eqb, ◌⊎◌, ◌↔◌, List, [], ◌∷◌, ◌++◌, sym, refl, ap, ◌∙◌, subst, inl, inr, arith}
 use mathlib.Core.Bool.{false≢true}
 use Rattle.std.proofs.lemmas.Bool.{eqb-true, eq-eqb, or_cases, or_left, or_right, both_ways, and_parts, and_from, cases_Bool}
-use Rattle.graphs.specs.Graph.{Graph, Set, ◌∈◌, ◌⊆◌, empty, with, both, count, listed, Below, Ends, Walk, Spans, LoopFree, LoopAlong, Independent, Tree}
+use Rattle.graphs.specs.Graph.{Graph, Set, ◌∈◌, ◌⊆◌, empty, with, both, count, listed, Below, Ends, Walk, Spans, LoopFree, Independent, Tree}
 use Rattle.graphs.specs.Labels.{joins}
 use Rattle.graphs.specs.Greedy.{keep, kept, greedy}
 use Rattle.graphs.proofs.Sets.{same, in_with, with_more, with_cases, in_without, count-le}
 use Rattle.graphs.proofs.Walks.{one_along, through, into}
 use Rattle.graphs.proofs.Labels.{joins_walk, no_walk}
-use Rattle.graphs.proofs.Trails.{loop_along, independent_free, keep_independent, free_less}
+use Rattle.graphs.proofs.Trails.{independent_free, keep_independent, free_less}
 use Rattle.graphs.proofs.Rank.{rank}
 
 -- one turn
@@ -51,9 +51,6 @@ kept_from g m (k ∷ ks) S j h = go (kept_from g m ks (keep g m S k) j h)
     go : (j ∈ keep g m S k) ⊎ (j ∈ listed ks) → (j ∈ S) ⊎ (j ∈ listed (k ∷ ks))
     go (inl i) = elim (keep-from g m S k j i) [ inl u ↦ inl u | inr e ↦ inr (or_left (eqb j k) (listed ks j) (eq-eqb j k e)) ]
     go (inr i) = inr (or_right (eqb j k) (listed ks j) i)
-
-pub kept-below : (g : Graph) (m : ℕ) (ks : List ℕ) (S : Set) → Below m S → Below m (listed ks) → Below m (kept g m ks S)
-kept-below g m ks S b l j h = elim (kept_from g m ks S j h) [ inl i ↦ b j i | inr i ↦ l j i ]
 
 front : (m k : ℕ) (ks : List ℕ) → Below m (listed (k ∷ ks)) → (k < m) × Below m (listed ks)
 unfolding listed
@@ -98,10 +95,6 @@ greedy_front_same g m fs rs l k = same (both (greedy g m (fs ++ rs)) (listed fs)
   where
     there : k ∈ both (greedy g m (fs ++ rs)) (listed fs) → k ∈ greedy g m fs
     there h = elim (cases_Bool (greedy g m fs k)) [ inl e ↦ e | inr e ↦ absurd (greedy_independent g m (fs ++ rs) l k (and_parts (greedy g m (fs ++ rs) k) (listed fs k) h).0 (into (λ j u. in_without (greedy g m (fs ++ rs)) k j (greedy_front g m fs rs j u) (λ d. both_ways (greedy g m fs k) e (subst (λ n. n ∈ greedy g m fs) d u))) (kept_spans g m fs empty k (and_parts (greedy g m (fs ++ rs) k) (listed fs k) h).1))) ]
-
--- a branch of the list that is not kept closes a loop with kept ones
-pub greedy_refused : (g : Graph) (m : ℕ) (ks : List ℕ) (k : ℕ) → k ∈ listed ks → greedy g m ks k ≡ false → LoopAlong g (greedy g m ks) k
-greedy_refused g m ks k h out = loop_along k out (kept_spans g m ks empty k h)
 
 -- a branch is kept exactly if those kept before it do not join its ends
 pub greedy-turn : (g : Graph) (m : ℕ) (fs rs : List ℕ) (k : ℕ) → Below m (listed (fs ++ (k ∷ rs))) → listed fs k ≡ false → k ∈ greedy g m (fs ++ (k ∷ rs)) ↔ (Spans g (greedy g m fs) k → ⊥)

@@ -54,10 +54,6 @@ module _ {M : Type 0} (G : Group M) where
   times-diff false true x = sym (unit_left (G.neg x))
   times-diff false false x = sym (G.inverse G.zero)
 
-  -- how two nodes stand to a set, by way of a third
-  pub diff-add : (a b c : Bool) (x : M) → times G (diff a c) x ≡ G.add (times G (diff a b) x) (times G (diff b c) x)
-  diff-add a b c x = times-diff a c x ∙ sub-sub (cond a x G.zero) (cond b x G.zero) (cond c x G.zero) ∙ sym (ap₂ G.add (times-diff a b x) (times-diff b c x))
-
   -- sums
   pub sum_cong : (f h : ℕ → M) (n : ℕ) → ((k : ℕ) → f k ≡ h k) → sum G f n ≡ sum G h n
   sum_cong f h n e = ap (λ u. sum G u n) (λ i k. e k i)

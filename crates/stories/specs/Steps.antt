@@ -9,6 +9,9 @@
 -- flow_of         the current of a branch that is no voltage source: conductance × voltage + feed, or the feed
 -- current_of      the current of a branch: a voltage source's is what the links of its cut leave
 -- Result          the currents and voltages of a step
+-- result_of       what the parts give with a value for each unknown
+-- step_parts, step_result
+--                 the parts of a sheet's next step, and what it finds
 -- renewed         a row with a new current and voltage
 -- renewed_rows    the rows with those of every placed branch
 -- unsound         some current or voltage of a placed branch is unsound

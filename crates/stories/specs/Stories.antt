@@ -6,8 +6,7 @@
 -- run_by a cs     the sheet after the calls cs, the latest first, from the blank sheet; a refused call leaves the sheet
 -- start_by a cs k the start that the last granted place at k was given
 -- sum_by a f cs k the sum, over the steps granted since that place, of step length × the figure f that the step left in the row of k
--- answer, run, start_of, sum_of
---                 the same by the tree's call
+-- run             the same by the tree's call
 use Rattle.std.specs.Prelude.{ℕ, cond, List, [], ◌∷◌, replicate, ◌==◌}
 use Rattle.arithmetic.specs.Ops.{Ops}
 use Rattle.sheet.specs.declared.row.Row.{Row}
@@ -60,16 +59,7 @@ unfoldable pub sum_by : {M : Type 0} → Ops M → TreeCall → (Row M → M) �
 sum_by o a f [] k = o.nought
 sum_by o a f (c ∷ cs) k = new_sum o f k c (sum_by o a f cs k) (answer_by o a c (run_by o a cs))
 
-abbrev pub answer : {M : Type 0} → Ops M → StoryCall M → Sheet M → Answer (Sheet M)
-answer o = answer_by o tree_of
-
 -- who unfolds run unfolds run_by too
 unfoldable pub run : {M : Type 0} → Ops M → List (StoryCall M) → Sheet M
 unfolding run_by
 run o = run_by o tree_of
-
-abbrev pub start_of : {M : Type 0} → Ops M → List (StoryCall M) → ℕ → M
-start_of o = start_by o tree_of
-
-abbrev pub sum_of : {M : Type 0} → Ops M → (Row M → M) → List (StoryCall M) → ℕ → M
-sum_of o = sum_by o tree_of

@@ -1,6 +1,7 @@
 -- The theorem of stories. Assumes nothing.
 --
 -- Granted         the answer is no refusal
+-- RefusedBy n a   the answer is a refusal by n
 -- OnlyZeroDead    every dead list is zero at every placed branch
 -- Solved          a step of length h: granted exactly if only the zero list is dead; the rows it leaves are the one live list
 -- MeetsNeither    an answer that is no refusal by 12 or 13
@@ -14,7 +15,7 @@
 -- SumsBy          value × change of voltage is the sum of step length × current, at a capacitor; of current and voltage, at an inductor
 -- TreesBy a Best, TheoremBy a Best
 --                 the theorem where a answers with a plan's tree, and Best is said of that
--- Sums, TreesOfStories, TheoremOfStories
+-- TreesOfStories, TheoremOfStories
 --                 the theorem by the tree's call
 -- TreesShowing, TheoremShowing
 --                 the theorem whatever 12 and 13 show
@@ -108,9 +109,6 @@ pub record TheoremBy {M : Type 0} (o : Ops M) (a : TreeCall) (Best : Plan → Ty
       Solved o h (run_by o a cs) (stepped_by o a 32 area h (run_by o a cs))
   pub trees : TreesBy o a Best
   pub sums : (cs : List (StoryCall M)) (k : ℕ) → SumsBy o a cs k
-
-abbrev pub Sums : {M : Type 0} → Ops M → List (StoryCall M) → ℕ → Type 0
-Sums o = SumsBy o tree_of
 
 abbrev pub TreesOfStories : {M : Type 0} → Ops M → Type 0
 TreesOfStories o = TreesBy o tree_of BestTree

@@ -3,7 +3,6 @@ use Rattle.std.proofs.Common.{◌≡◌, ℕ, suc, ◌+◌, ◌^◌, ◌<◌, Bo
 use Rattle.std.proofs.lemmas.Bool.{cases_eq, eq-eqb, ne_eqb, le-ltb, and_right}
 use Rattle.std.proofs.lemmas.List.{get_or-replicate, get_or-set_same, get_or-set_other}
 use mathlib.Core.Path.{fun_ext}
-use Rattle.sheet.specs.declared.refusal.Shown.{Shown}
 use Rattle.graphs.specs.Cuts.{diff}
 use Rattle.graphs.specs.Graph.{Set, with}
 use Rattle.topology.specs.Rows.{marks, backs, shown}

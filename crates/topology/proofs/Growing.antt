@@ -1,12 +1,12 @@
 -- Labels that grow with the branches kept.
-use Rattle.std.proofs.Common.{◌≡◌, ℕ, suc, zero, ◌^◌, ◌<◌, cond, Bool, true, false, List, map, get_or, sym, refl, ap, ◌∙◌, subst, inl, inr, arith}
+use Rattle.std.proofs.Common.{◌≡◌, ℕ, suc, zero, ◌^◌, ◌<◌, true, false, List, map, get_or, sym, refl, ◌∙◌, subst, inl, inr, arith}
 use Rattle.std.specs.List.{range_with_len}
 use Rattle.std.proofs.lemmas.Bool.{cond-true, cond-false}
 use Rattle.std.proofs.lemmas.List.{length-map, get_or-map}
 use Rattle.graphs.specs.Graph.{Graph, Set, Below, empty, with}
 use Rattle.graphs.specs.Greedy.{keep}
-use Rattle.graphs.specs.Labels.{merge, label, joins}
-use Rattle.graphs.proofs.Labels.{label_out, label-with}
+use Rattle.graphs.specs.Labels.{merge, joins}
+use Rattle.graphs.proofs.Labels.{label-with}
 use Rattle.graphs.proofs.Sets.{with_cases}
 use Rattle.topology.specs.Networks.{Labelled, alike}
 use Rattle.topology.specs.Words.{bits}

@@ -10,5 +10,6 @@ pub mod Theory
 pub mod Summing
 pub mod ByCuts
 pub mod Crossing
+pub mod Earlier
 pub mod Showing
 pub mod Meaning

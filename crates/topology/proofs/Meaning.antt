@@ -4,16 +4,17 @@ use Rattle.std.proofs.lemmas.Bool.{and_parts, and_from, eq-eqb, ne_eqb, not-true
 use Rattle.sheet.specs.declared.plan.Plan.{Plan}
 use Rattle.sheet.specs.declared.refusal.Shown.{Shown}
 use Rattle.sheet.specs.Refusals.{Answer, granted, refused, after, Told, shown_of}
-use Rattle.graphs.specs.Graph.{◌∈◌, count, Tree, none}
+use Rattle.graphs.specs.Graph.{Set, ◌∈◌, both, count, Tree, Spans, none}
 use Rattle.graphs.specs.Cuts.{diff, side, cut_row, loop_row, incidence}
 use Rattle.graphs.specs.Greedy.{of_class}
 use Rattle.graphs.specs.Groups.{Group, sum, sum_over, times}
 use Rattle.topology.specs.Matrices.{entry, Matrices, integers}
-use Rattle.topology.specs.Meanings.{ProperTree, Shows, TreeAnswer, LoopRow, LoopAnswer, CutRow, CutAnswer, IncidenceAnswer}
+use Rattle.topology.specs.Meanings.{ProperTree, Shows, earlier, TreeAnswer, LoopRow, LoopAnswer, CutRow, CutAnswer, IncidenceAnswer}
 use Rattle.topology.specs.Networks.{tail_of, head_of, graph_of, placed, class_at}
 use Rattle.topology.specs.Rows.{shown}
 use Rattle.topology.specs.Trees.{tree_set, loose, late, voltage_loop, current_cut, tree_of, loop_of, cut_of, loop_row_of, cut_row_of}
 use Rattle.topology.specs.Words.{bits, word, first}
+use Rattle.topology.proofs.Earlier.{kept_in_turn}
 use Rattle.topology.proofs.Answering.{meets_loop, meets_cut, meets_none}
 use Rattle.topology.proofs.Bits.{bits-word}
 use Rattle.topology.proofs.Showing.{voltage_loop_lem, current_cut_lem, loop_row_is, cut_row_is}
@@ -59,6 +60,7 @@ tree_answer p = record {
   proper = λ w e. subst (ProperTree p) (sym (granted_tree p w e).0) (granted_tree p w e).1;
   most = λ w e T t. subst (λ S. count (of_class (class_at p) 1 T) 32 ≤ count (of_class (class_at p) 1 S) 32) (sym (granted_tree p w e).0) ((best_proper p).most T t);
   fewest = λ w e T t. subst (λ S. count (of_class (class_at p) 3 S) 32 ≤ count (of_class (class_at p) 3 T) 32) (sym (granted_tree p w e).0) ((best_proper p).fewest T t);
+  turn = λ w e k i. subst (λ (S : Set). k ∈ S ↔ (Spans (graph_of p) (both S (earlier p k)) k → ⊥)) (sym (granted_tree p w e).0) (kept_in_turn p k i);
   columns = λ w e x k i. subst (λ S. times integers (incidence (graph_of p) x k) (pos 1) ≡ sum_over integers S (λ t. times integers (entry (shown (cut_row (graph_of p) S 32 t)) k) (times integers (incidence (graph_of p) x t) (pos 1))) 32) (sym (granted_tree p w e).0) (tree_columns integers p (pos 1) x k i);
   shows = λ t e. go t e (ways p);
 }

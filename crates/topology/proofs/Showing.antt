@@ -10,6 +10,7 @@ use Rattle.graphs.specs.Graph.{Set, ◌∈◌, ◌⊆◌, both, plus, none, Loop
 use Rattle.graphs.specs.Cuts.{just_one, diff, cut, leaves, side, cut_row, loop_row}
 use Rattle.graphs.specs.Greedy.{up_to, reached}
 use Rattle.graphs.proofs.Classes.{up_to_less, up_to_class, up_to_in, tree_joins}
+use Rattle.graphs.proofs.Labels.{joins_walk, walk_joins}
 use Rattle.graphs.proofs.LoopRows.{loop_row_lem}
 use Rattle.graphs.proofs.Sets.{out}
 use Rattle.graphs.proofs.Trails.{loop_along, free_independent, free_less, wider}
@@ -20,6 +21,7 @@ use Rattle.topology.specs.Rows.{marks, shown, cut_from}
 use Rattle.topology.specs.Trees.{tree_set, voltages, loose, late, voltage_loop, current_cut}
 use Rattle.topology.specs.Words.{bits, first}
 use Rattle.topology.proofs.Bits.{bits-those}
+use Rattle.topology.proofs.Networks.{placed_below}
 use Rattle.topology.proofs.Summing.{loop_balances, cut_sides}
 use Rattle.topology.proofs.Firsts.{first_member, first_lowest}
 use Rattle.topology.proofs.Theory.{class_low, best, is_tree, tree_below, tree_rows, loose_is, late_is, late_in}
@@ -86,6 +88,10 @@ current_cut_lem p k found =
       in_tree = is.0;
       lowest = λ j lt i. out (tree_set p j) (λ t. both_ways (late p j) (first_lowest (late p) 0 32 k j found (omega arith) lt) (late_in p j t (eqb-true (class_at p j) 4 (and_parts (placed p j) (eqb (class_at p j) 4) i).1)));
       nodes = reached (graph_of p) (class_at p) 3 (placed p) 32 k;
+      reached = λ x. (
+        λ h. joins_walk (graph_of p) (up_to (class_at p) 3 (placed p)) 32 h,
+        λ w. walk_joins 32 (λ j h. placed_below p j (up_to_less (class_at p) 3 (placed p) j h)) w,
+      );
       inside = c.inside;
       member = c.member;
       all = λ j h. sources j (and_parts (placed p j) _ h).0 (c.above j h);

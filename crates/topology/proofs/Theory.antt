@@ -1,18 +1,15 @@
 -- The graph theory at work on a plan: its tree, and when 12 and 13 are met.
 use Rattle.std.proofs.Common.{◌≡◌, ℕ, ◌<◌, ◌≤◌, true, false, not, ltb, leb, ◌⊎◌, is_some, Some, None, Option, refl, inl, inr, arith}
-use Rattle.std.proofs.lemmas.Bool.{and_parts, and_from, leb-false, not-true, not_from_false, both_ways, cases_Bool, eq-eqb}
+use Rattle.std.proofs.lemmas.Bool.{and_parts, and_from, leb-false, not-true, not_from_false, both_ways, cases_Bool}
 use Rattle.sheet.specs.declared.branch.Branch.{Branch}
 use Rattle.sheet.specs.declared.kind.Kind.{Kind}
 use Rattle.sheet.specs.declared.kind.Kind.TheVariants.{Resistor, Inductor, Capacitor, VoltageSource, CurrentSource}
 use Rattle.sheet.specs.declared.plan.Plan.{Plan}
 use Rattle.sheet.specs.Plans.{branch_at}
-use Rattle.graphs.specs.Graph.{Set, ◌∈◌, count, Below, Ends, Tree}
-use Rattle.graphs.specs.Groups.{Group}
-use Rattle.graphs.specs.Labels.{label, own}
-use Rattle.graphs.specs.Joint.{Listing, BestTree, BestProper, Rows, Balances}
+use Rattle.graphs.specs.Graph.{Set, ◌∈◌, Below, Ends, Tree}
+use Rattle.graphs.specs.Joint.{Listing, BestTree, BestProper, Rows}
 use Rattle.graphs.proofs.Joint.{theory}
-use Rattle.graphs.proofs.Labels.{label-le}
-use Rattle.graphs.proofs.Sets.{out, count-without}
+use Rattle.graphs.proofs.Sets.{out}
 use Rattle.graphs.proofs.Classes.{up_to_less, up_to_class, up_to_in}
 use Rattle.topology.specs.Meanings.{ProperTree}
 use Rattle.topology.specs.Networks.{kind_class, class_found, graph_of, placed, class_at}
@@ -58,19 +55,6 @@ tree_below p k m = placed_below p k ((is_tree p).placed k m)
 
 pub tree_rows : (p : Plan) → Rows (graph_of p) (tree_set p) 32
 tree_rows p = (theory ℕ).rows (graph_of p) (tree_set p) 32 (tree_below p) (is_tree p).free
-
--- values on the branches, seen from the tree
-pub tree_balances : {M : Type 0} (G : Group M) (p : Plan) → Balances G (graph_of p) (placed p) (tree_set p) 32 16
-tree_balances {M} G p = (theory M).balances G (graph_of p) (placed p) (tree_set p) 32 16 (placed_below p) (ends_placed p) (is_tree p)
-
--- at most 15 branches are kept: the 16 nodes leave at least one part
-pub tree_small : (p : Plan) → count (tree_set p) 32 ≤ 15
-tree_small p =
-    let g = graph_of p in
-    let S = tree_set p in
-    let forest = ((theory ℕ).counting g S 32 16).forest (is_tree p).free (λ k m. ends_placed p k ((is_tree p).placed k m)) in
-    let own_zero = eq-eqb (label g S 32 0) 0 (omega (arith, label-le g S 32 0)) in
-    omega (arith, forest, count-without (own g S 32) 0 16 (omega arith) own_zero)
 
 -- none is found exactly where there is none
 found_none : (S : Set) → ((k : ℕ) → k < 32 → S k ≡ false) → first S ≡ None

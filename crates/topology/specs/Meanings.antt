@@ -4,9 +4,10 @@
 -- ProperTree p T      T is a tree of the plan that holds every voltage source and no current source
 -- VoltageLoop p s     s is the loop along the lowest voltage source outside the tree and back over voltage sources of
 --                     the tree, passing no branch twice
--- CurrentCut p s      s is the cut of a set of nodes and made of current sources alone; the lowest one of the tree is
---                     in it, with its tail in the set
+-- CurrentCut p s      s is the cut of the nodes that branches other than current sources reach from the tail of the lowest
+--                     current source of the tree; it is made of current sources alone, that one among them
 -- Shows p t           what a refusal tells: 12 and such a loop, or 13 and such a cut
+-- earlier p k         the placed branches that come before k: of a lower class, or of its class with a lower number
 -- TreeAnswer p a      what an answer to the tree's call means
 -- LoopRow p k s       k is a link, and s is the loop along it and back through the tree, passing no branch twice
 -- LoopAnswer p k a    what an answer to the call for the loop row of k means
@@ -14,20 +15,20 @@
 --                     no other tree branch is in it
 -- CutAnswer p t a     what an answer to the call for the cut row of t means
 -- IncidenceAnswer     plus at the tail, minus at the head, none at another node and for an absent branch
-use Rattle.std.specs.Prelude.{◌≡◌, ℕ, ◌<◌, ◌≤◌, false, ◌⊎◌, ◌↔◌, pos, Some, None, Option, ◌≢◌}
+use Rattle.std.specs.Prelude.{◌≡◌, ℕ, ◌<◌, ◌≤◌, false, ◌&&◌, ◌||◌, ◌==◌, nat_lt, ◌⊎◌, ◌↔◌, pos, Some, None, Option, ◌≢◌}
 use Rattle.sheet.specs.declared.branch.Branch.{Branch}
 use Rattle.sheet.specs.declared.plan.Plan.{Plan}
 use Rattle.sheet.specs.declared.refusal.Shown.{Shown}
 use Rattle.sheet.specs.Plans.{branch_at}
 use Rattle.sheet.specs.Refusals.{Answer, granted, refused, Told, shown_of}
-use Rattle.graphs.specs.Graph.{Set, ◌∈◌, both, without, count, Sign, plus, none, minus, Walk, LoopAlong, way_around, Tree}
+use Rattle.graphs.specs.Graph.{Set, ◌∈◌, both, without, count, Sign, plus, none, minus, Walk, Spans, LoopAlong, way_around, Tree}
 use Rattle.graphs.specs.Cuts.{cut, leaves, cut_row, incidence}
 use Rattle.graphs.specs.Greedy.{of_class, Proper}
 use Rattle.graphs.specs.Groups.{sum_over, times}
 use Rattle.topology.specs.Matrices.{entry, integers, value, dot}
 use Rattle.topology.specs.Networks.{graph_of, placed, class_at}
 use Rattle.topology.specs.Rows.{shown}
-use Rattle.topology.specs.Trees.{tree_set, tree_of, cut_row_of, voltages}
+use Rattle.topology.specs.Trees.{tree_set, tree_of, cut_row_of, voltages, no_currents}
 use Rattle.topology.specs.Words.{bits}
 
 abbrev pub currents : Plan → Set
@@ -50,6 +51,7 @@ pub record CurrentCut (p : Plan) (s : Shown) : Type 0 where
   pub in_tree : source ∈ tree_set p
   pub lowest : (j : ℕ) → j < source → j ∈ currents p → tree_set p j ≡ false
   pub nodes : Set
+  pub reached : (x : ℕ) → x ∈ nodes ↔ Walk (graph_of p) (no_currents p) ((graph_of p).tail source) x
   pub inside : (graph_of p).tail source ∈ nodes
   pub member : source ∈ cut (graph_of p) (placed p) nodes
   pub all : (k : ℕ) → k ∈ cut (graph_of p) (placed p) nodes → k ∈ currents p
@@ -61,6 +63,9 @@ Shows p t =
     ((s : Shown) × (t ≡ record { number = 12; words = shown_of (Some s) }) × VoltageLoop p s)
     ⊎ ((s : Shown) × (t ≡ record { number = 13; words = shown_of (Some s) }) × CurrentCut p s)
 
+abbrev pub earlier : Plan → ℕ → Set
+earlier p k j = placed p j && (nat_lt (class_at p j) (class_at p k) || (class_at p j == class_at p k && nat_lt j k))
+
 pub record TreeAnswer (p : Plan) (a : Answer ℕ) : Type 0 where
   -- a tree is granted exactly if some tree is proper
   pub exactly : ((w : ℕ) × (a ≡ granted w)) ↔ ((T : Set) × ProperTree p T)
@@ -69,6 +74,8 @@ pub record TreeAnswer (p : Plan) (a : Answer ℕ) : Type 0 where
   -- no proper tree has more capacitors or fewer inductors
   pub most : (w : ℕ) → a ≡ granted w → (T : Set) → ProperTree p T → count (of_class (class_at p) 1 T) 32 ≤ count (of_class (class_at p) 1 (bits w)) 32
   pub fewest : (w : ℕ) → a ≡ granted w → (T : Set) → ProperTree p T → count (of_class (class_at p) 3 (bits w)) 32 ≤ count (of_class (class_at p) 3 T) 32
+  -- a branch is in the tree exactly if those of the tree that come before it do not join its ends
+  pub turn : (w : ℕ) → a ≡ granted w → (k : ℕ) → k ∈ placed p → k ∈ bits w ↔ (Spans (graph_of p) (both (bits w) (earlier p k)) k → ⊥)
   -- incidence is its tree columns times the cut rows
   pub columns : (w : ℕ) → a ≡ granted w → (x k : ℕ) → k ∈ placed p → value (incidence (graph_of p) x k) ≡ sum_over integers (bits w) (λ t. times integers (entry (shown (cut_row (graph_of p) (bits w) 32 t)) k) (value (incidence (graph_of p) x t))) 32
   pub shows : (t : Told) → a ≡ refused t → Shows p t

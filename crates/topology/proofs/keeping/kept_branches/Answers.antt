@@ -1,5 +1,4 @@
 use Rattle.std.proofs.Common.{◌≡◌, get_or, ap, ◌∙◌, arith}
-use mathlib.Core.Path.{fun_ext}
 use Rattle.sheet.specs.declared.kind.Kind.TheVariants.{Resistor}
 use Rattle.sheet.specs.declared.plan.Plan.{Plan}
 use Rattle.graphs.specs.Greedy.{kept, greedy, in_order, members, of_class}

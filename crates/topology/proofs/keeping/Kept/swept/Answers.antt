@@ -1,6 +1,5 @@
-use Rattle.std.proofs.Common.{◌≡◌, refl, sym, ap, ◌∙◌, rules, subst}
-use Rattle.sheet.specs.declared.plan.Plan.{Plan}
-use Rattle.graphs.specs.Greedy.{keep, kept, of_class, members}
+use Rattle.std.proofs.Common.{refl, ap, ◌∙◌, rules}
+use Rattle.graphs.specs.Greedy.{kept, of_class, members}
 use Rattle.topology.specs.declared.keeping.Kept.{Kept}
 use Rattle.topology.specs.Networks.{kind_class, graph_of, placed, class_at}
 use Rattle.topology.specs.Words.{bits}
