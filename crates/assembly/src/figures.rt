@@ -40,7 +40,7 @@ impl<'a, N: Arithmetic> Setting<'a, N> {
     // The current of a branch that is no voltage source: conductance × voltage + feed, or the feed alone.
     fn flow_of(&self, voltages: &[N], k: u32) -> N
         requires { k < 32 }
-        ensures { (c : Parts N.Meaning) (x : ℕ → N.Meaning) → Frames c self.now.frame.now → Holds N.ops c (map N.mean self.now.area.now) → Filled N.ops all (voltage_of N.ops c x) 32 (map N.mean voltages.now) → c.feeding k ≡ true → N.mean result ≡ flow_of N.ops c x k }
+        ensures { (c : Parts N.Meaning) (x : ℕ → N.Meaning) → Frames c self.now.frame.now → Holds N.ops c (map N.mean self.now.area.now) → Filled N.ops (in_use c) (voltage_of N.ops c x) 32 (map N.mean voltages.now) → c.feeding k ≡ true → N.mean result ≡ flow_of N.ops c x k }
     {
         let at = k as usize;
         let feed = get(self.area, 32 + at);
@@ -52,14 +52,14 @@ impl<'a, N: Arithmetic> Setting<'a, N> {
     }
 
     fn flows_of(&self, voltages: &[N]) -> [N; 32]
-        ensures { (c : Parts N.Meaning) (x : ℕ → N.Meaning) → Frames c self.now.frame.now → Holds N.ops c (map N.mean self.now.area.now) → Filled N.ops all (voltage_of N.ops c x) 32 (map N.mean voltages.now) → Filled N.ops c.feeding (flow_of N.ops c x) 32 (map N.mean result) }
+        ensures { (c : Parts N.Meaning) (x : ℕ → N.Meaning) → Frames c self.now.frame.now → Holds N.ops c (map N.mean self.now.area.now) → Filled N.ops (in_use c) (voltage_of N.ops c x) 32 (map N.mean voltages.now) → Filled N.ops c.feeding (flow_of N.ops c x) 32 (map N.mean result) }
     {
         from_fn(|k| self.flow_of(voltages, k as u32))
     }
 
     // The voltage of every branch, by place, from the area of the solved system of so many unknowns.
     pub fn branch_voltages(&self, unknowns: u32) -> [N; 32]
-        ensures { (c : Parts N.Meaning) → Frames c self.now.frame.now → Levels c (levels_of N.ops N.mean self.now.rows.now) → Filled N.ops all (voltage_of N.ops c (found N.ops (map N.mean self.now.area.now) unknowns)) 32 (map N.mean result) }
+        ensures { (c : Parts N.Meaning) → Frames c self.now.frame.now → Levels c (levels_of N.ops N.mean self.now.rows.now) → Filled N.ops (in_use c) (voltage_of N.ops c (found N.ops (map N.mean self.now.area.now) unknowns)) 32 (map N.mean result) }
     {
         let tree = self.tree_voltages(unknowns);
         voltages_of(self.frame, &tree)
@@ -67,7 +67,7 @@ impl<'a, N: Arithmetic> Setting<'a, N> {
 
     // The current of every branch, by place, from its voltage.
     pub fn branch_currents(&self, voltages: &[N]) -> [N; 32]
-        ensures { (c : Parts N.Meaning) (x : ℕ → N.Meaning) → Frames c self.now.frame.now → Holds N.ops c (map N.mean self.now.area.now) → Filled N.ops all (voltage_of N.ops c x) 32 (map N.mean voltages.now) → Filled N.ops (in_use c) (current_of N.ops c x) 32 (map N.mean result) }
+        ensures { (c : Parts N.Meaning) (x : ℕ → N.Meaning) → Frames c self.now.frame.now → Holds N.ops c (map N.mean self.now.area.now) → Filled N.ops (in_use c) (voltage_of N.ops c x) 32 (map N.mean voltages.now) → Filled N.ops (in_use c) (current_of N.ops c x) 32 (map N.mean result) }
     {
         let flows = self.flows_of(voltages);
         currents_of(self.frame, &flows)
@@ -87,19 +87,22 @@ fn link_voltage<N: Arithmetic>(frame: &Frame, tree: &[N], k: u32) -> N
     )
 }
 
+// The voltage of a branch; zero where there is none.
 fn voltage_of<N: Arithmetic>(frame: &Frame, tree: &[N], k: u32) -> N
     requires { k < 32 }
-    ensures { (c : Parts N.Meaning) (x : ℕ → N.Meaning) → Frames c frame.now → Filled N.ops all (tree_voltage c x) 32 (map N.mean tree.now) → N.mean result ≡ voltage_of N.ops c x k }
+    ensures { (c : Parts N.Meaning) (x : ℕ → N.Meaning) → Frames c frame.now → Filled N.ops all (tree_voltage c x) 32 (map N.mean tree.now) → in_use c k ≡ true → N.mean result ≡ voltage_of N.ops c x k }
 {
     if has(frame.tree, k) {
         get(tree, k as usize)
-    } else {
+    } else if has(frame.link, k) {
         link_voltage(frame, tree, k)
+    } else {
+        N::zero()
     }
 }
 
 fn voltages_of<N: Arithmetic>(frame: &Frame, tree: &[N]) -> [N; 32]
-    ensures { (c : Parts N.Meaning) (x : ℕ → N.Meaning) → Frames c frame.now → Filled N.ops all (tree_voltage c x) 32 (map N.mean tree.now) → Filled N.ops all (voltage_of N.ops c x) 32 (map N.mean result) }
+    ensures { (c : Parts N.Meaning) (x : ℕ → N.Meaning) → Frames c frame.now → Filled N.ops all (tree_voltage c x) 32 (map N.mean tree.now) → Filled N.ops (in_use c) (voltage_of N.ops c x) 32 (map N.mean result) }
 {
     from_fn(|k| voltage_of(frame, tree, k as u32))
 }

@@ -16,7 +16,7 @@ use Rattle.stories.specs.Networks.{kind_at, is_voltage, is_current, is_passive, 
 use Rattle.stories.specs.Steps.{row_at, parts_of, solving, figure_of, voltage_of, current_of, renewed, renewed_rows, unsound, step_parts, step_result}
 use Rattle.stories.proofs.Areas.{turns_keep}
 use Rattle.stories.proofs.Networks.{placed_kind}
-use Rattle.assembly.specs.Figures.{all, in_use, Filled}
+use Rattle.assembly.specs.Figures.{in_use, Filled}
 use Rattle.stepping.specs.Steps.{unsound_at, renewed_at, given, settled, Settles, Others}
 
 -- asked of the same numbers
@@ -35,7 +35,7 @@ used (Some CurrentSource) m = refl
 
 module _ {M : Type 0} (o : Ops M) (h : M) (s : Sheet M) (currents voltages : List M)
     (is : Filled o (in_use (step_parts o h s)) (current_of o (step_parts o h s) (figure_of o (step_parts o h s))) 32 currents)
-    (us : Filled o all (voltage_of o (step_parts o h s) (figure_of o (step_parts o h s))) 32 voltages) where
+    (us : Filled o (in_use (step_parts o h s)) (voltage_of o (step_parts o h s) (figure_of o (step_parts o h s))) 32 voltages) where
   placed_used : (k : ℕ) → k ∈ placed s.plan → k ∈ in_use (step_parts o h s)
   unfolding parts_of
   placed_used k m = used (kind_at s.plan k) (sym (placed_kind s.plan k) ∙ m)
@@ -43,8 +43,8 @@ module _ {M : Type 0} (o : Ops M) (h : M) (s : Sheet M) (currents voltages : Lis
   current_is : (k : ℕ) → k < 32 → k ∈ placed s.plan → get_or currents k o.nought ≡ (step_result o h s).current k
   current_is k l m = is.each k l (placed_used k m)
 
-  voltage_is : (k : ℕ) → k < 32 → get_or voltages k o.nought ≡ (step_result o h s).voltage k
-  voltage_is k l = us.each k l refl
+  voltage_is : (k : ℕ) → k < 32 → k ∈ placed s.plan → get_or voltages k o.nought ≡ (step_result o h s).voltage k
+  voltage_is k l m = us.each k l (placed_used k m)
 
   -- the same results are asked
   pub unsound_is : any (unsound_at o s.plan currents voltages) 32 ≡ unsound o s.plan (step_result o h s)
@@ -54,7 +54,7 @@ module _ {M : Type 0} (o : Ops M) (h : M) (s : Sheet M) (currents voltages : Lis
       go : (k : ℕ) → k < 32 → (b : Bool) → placed s.plan k ≡ b →
           (placed s.plan k && not (o.is_sound (get_or currents k o.nought) && o.is_sound (get_or voltages k o.nought)))
           ≡ (placed s.plan k && not (o.is_sound ((step_result o h s).current k) && o.is_sound ((step_result o h s).voltage k)))
-      go k l true m = ap₂ (λ x y. placed s.plan k && not (o.is_sound x && o.is_sound y)) (current_is k l m) (voltage_is k l)
+      go k l true m = ap₂ (λ x y. placed s.plan k && not (o.is_sound x && o.is_sound y)) (current_is k l m) (voltage_is k l m)
       go k l false m = ap (λ b. b && not (o.is_sound (get_or currents k o.nought) && o.is_sound (get_or voltages k o.nought))) m ∙ sym (ap (λ b. b && not (o.is_sound ((step_result o h s).current k) && o.is_sound ((step_result o h s).voltage k))) m)
 
   -- the same rows are written
@@ -74,7 +74,7 @@ module _ {M : Type 0} (o : Ops M) (h : M) (s : Sheet M) (currents voltages : Lis
       go : (b : Bool) → placed s.plan n ≡ b → renewed_at o s.plan currents voltages n (through turn n s.rows) ≡ turn n (through turn n s.rows)
       go true m =
           ap (λ r. cond (placed s.plan n) (set (through turn n s.rows) n (renewed r (get_or currents n o.nought) (get_or voltages n o.nought))) (through turn n s.rows)) (untouched n)
-          ∙ ap₂ (λ x y. cond (placed s.plan n) (set (through turn n s.rows) n (renewed (row_at o s.rows n) x y)) (through turn n s.rows)) (current_is n l m) (voltage_is n l)
+          ∙ ap₂ (λ x y. cond (placed s.plan n) (set (through turn n s.rows) n (renewed (row_at o s.rows n) x y)) (through turn n s.rows)) (current_is n l m) (voltage_is n l m)
       go false m =
           cond-false _ _ _ m ∙ sym (cond-false _ _ _ m)
 

@@ -1,7 +1,7 @@
 -- What the area holds from its clearing to the solved system, and the figures from it. Assumes nothing.
 use Rattle.std.proofs.Common.{is_ok, ok_or, ◌≡◌, ℕ, zero, suc, ◌<◌, Bool, true, false, not, ◌&&◌, ◌||◌, List, [], ◌∷◌, map, length, replicate, is_some, Some, None, Ok, Option, Result, sym, refl, ap, ◌∙◌, subst, ap₂, arith}
 use Rattle.std.proofs.lemmas.List.{get_or-map}
-use Rattle.std.proofs.lemmas.Bool.{and_parts, both_ways}
+use Rattle.std.proofs.lemmas.Bool.{and_parts, and_from, both_ways}
 use Rattle.arithmetic.specs.Ops.{Ops}
 use Rattle.sheet.specs.declared.kind.Kind.{Kind}
 use Rattle.sheet.specs.declared.kind.Kind.TheVariants.{Resistor, Inductor, Capacitor, VoltageSource, CurrentSource}
@@ -31,7 +31,7 @@ use Rattle.stories.proofs.Networks.{placed_kind}
 use Rattle.stories.proofs.Systems.{step_few}
 use Rattle.stories.proofs.Trees.{proper_voltage}
 use Rattle.assembly.specs.declared.frame.Frame.{Frame}
-use Rattle.assembly.specs.Figures.{all, in_use, found, Filled}
+use Rattle.assembly.specs.Figures.{in_use, found, Filled}
 use Rattle.assembly.specs.Frames.{Frames, FrameOf, Holds, Levels, levels_of, system_of}
 use Rattle.stepping.specs.Steps.{companion_turn, Worked}
 
@@ -52,6 +52,10 @@ feeds (Some Inductor) m v = refl
 feeds (Some Capacitor) m v = refl
 feeds (Some VoltageSource) m v = cc
 feeds (Some CurrentSource) m v = refl
+
+stands : (f : Option Kind) → (is_passive f || is_current f) ≡ true → is_some f ≡ true
+stands None m = cc
+stands (Some k) m = refl
 
 module _ {V M : Type 0} (o : Ops M) (mean : V → M) (p : Plan) (rows : List (Row V)) (long : length rows ≡ 32) (w : ℕ) (tree_is : tree_of p ≡ granted w) (h : M) where
   abbrev sheet : Sheet M
@@ -85,6 +89,7 @@ module _ {V M : Type 0} (o : Ops M) (mean : V → M) (p : Plan) (rows : List (Ro
     fixed_in = every;
     unknown_in = λ t m. (and_parts (tree_set p t) (not (is_voltage (kind_at p t))) m).0;
     link_in = λ k m. link_feeds k (is_voltage (kind_at p k)) refl m;
+    feeding_in = λ k m out. and_from (placed p k) (not (tree_set p k)) (placed_kind p k ∙ stands (kind_at p k) m) (ap not out);
   }
 
   pub levels : Levels parts (levels_of o mean rows)
@@ -143,19 +148,19 @@ module _ {V M : Type 0} (o : Ops M) (mean : V → M) (p : Plan) (rows : List (Ro
       }
 
   -- the voltages of the solved system
-  pub voltages_are : (n : ℕ) (a : List M) (voltages : List M) → n ≡ size parts → a ≡ (solving o parts).left → Filled o all (voltage_of o parts (found o a n)) 32 voltages → Filled o all (voltage_of o parts (figure_of o parts)) 32 voltages
-  voltages_are n a voltages e d f = subst (λ x. Filled o all (voltage_of o parts x) 32 voltages) (ap₂ (λ a (n : ℕ). found o a n) d e) f
+  pub voltages_are : (n : ℕ) (a : List M) (voltages : List M) → n ≡ size parts → a ≡ (solving o parts).left → Filled o (in_use parts) (voltage_of o parts (found o a n)) 32 voltages → Filled o (in_use parts) (voltage_of o parts (figure_of o parts)) 32 voltages
+  voltages_are n a voltages e d f = subst (λ x. Filled o (in_use parts) (voltage_of o parts x) 32 voltages) (ap₂ (λ a (n : ℕ). found o a n) d e) f
 
   pub record Figured (currents voltages : List M) : Type 0 where
     pub ok : true ≡ (solving o parts).ok
     pub is : Filled o (in_use parts) (current_of o parts (figure_of o parts)) 32 currents
-    pub us : Filled o all (voltage_of o parts (figure_of o parts)) 32 voltages
+    pub us : Filled o (in_use parts) (voltage_of o parts (figure_of o parts)) 32 voltages
 
   -- and the currents
   pub figured :
       (f : Frame) → FrameOf p w f → (r : Option ℕ) (n : ℕ) (a voltages currents : List M) → Worked o h sheet r a → r ≡ Some n →
-      ((c : Parts M) → Frames c f → Levels c (levels_of o mean rows) → Filled o all (voltage_of o c (found o a n)) 32 voltages) →
-      ((c : Parts M) (x : ℕ → M) → Frames c f → Holds o c a → Filled o all (voltage_of o c x) 32 voltages → Filled o (in_use c) (current_of o c x) 32 currents) → Figured currents voltages
+      ((c : Parts M) → Frames c f → Levels c (levels_of o mean rows) → Filled o (in_use c) (voltage_of o c (found o a n)) 32 voltages) →
+      ((c : Parts M) (x : ℕ → M) → Frames c f → Holds o c a → Filled o (in_use c) (voltage_of o c x) 32 voltages → Filled o (in_use c) (current_of o c x) 32 currents) → Figured currents voltages
   figured f of r n a voltages currents worked e us is =
       let fr = frames f of in
       let v = voltages_are n a voltages (worked.unknowns n e) worked.left (us parts fr levels) in

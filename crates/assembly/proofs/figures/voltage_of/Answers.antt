@@ -3,11 +3,11 @@ use Rattle.assembly.proofs.Filling.{voltage_tree, voltage_link}
 use Rattle.assembly.proofs.figures.voltage_of.Goals as goal
 
 pub returns-then-has : goal.returns-then-has
-returns-then-has g c parts x fr h =
+returns-then-has g c parts x fr h used =
     c.get.ensures ∙ h.each c.args.k (omega arith) refl
     ∙ voltage_tree g.N.Arithmetic.ops parts c.args.frame.now fr x c.args.k (sym c.has.ensures ∙ c.if-has.true)
 
-pub returns-else-has : goal.returns-else-has
-returns-else-has g c parts x fr h =
+pub returns-then-has-2 : goal.returns-then-has-2
+returns-then-has-2 g c parts x fr h used =
     c.link_voltage.ensures parts x fr h
     ∙ voltage_link g.N.Arithmetic.ops parts c.args.frame.now fr x c.args.k (sym c.has.ensures ∙ c.if-has.false)
