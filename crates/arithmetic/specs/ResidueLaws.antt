@@ -1,4 +1,10 @@
 -- Remainders modulo 8,191 obey every law of an exact arithmetic. Assumes nothing.
+--
+-- residue_path, leaves, residue_of
+--                 when two residues are one
+-- residue_laws    the laws
+-- of_remainder to of_product
+--                 a number, a part of a sum or a factor may be replaced by its remainder
 use Rattle.std.specs.Prelude.{◌≡◌, ℕ, zero, suc, ◌+◌, ◌-◌, ◌*◌, ◌%◌, ◌<◌, ◌≢◌, nat_lt, refl}
 use Rattle.std.proofs.Common.{sym, ap, ◌∙◌, add_comm, add_assoc, add-zero, mul_comm, mul_assoc, mul-one, mul-add, mod-eq_of_lt, arith, true-eqb, ltb→lt}
 use mathlib.Core.HLevel.{Σ_prop_path}
@@ -33,7 +39,7 @@ counts (suc n) =
     ∙ leaves (n + 1) (n % 8191 + 1) (sym (mod-add-mod n 8191 1))
     ∙ ap (λ r. residue_ops.add r residue_ops.one) (counts n)
 
--- the remainder of a sum whose second part is one
+-- a part of a sum may be replaced by its remainder
 sum_left : (m n : ℕ) → (m % 8191 + n) % 8191 ≡ (m + n) % 8191
 sum_left m n = mod-add-mod m 8191 n
 

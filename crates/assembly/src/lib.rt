@@ -11,6 +11,5 @@ mod setting;
 mod system;
 
 pub use frame::Frame;
-pub use linear::{get, put};
 pub use setting::Setting;
 pub use system::assemble;

@@ -8,7 +8,7 @@ use Rattle.cards.specs.declared.numeral.Numeral.{Numeral}
 use Rattle.cards.specs.declared.token.Token.{Token}
 use Rattle.cards.specs.declared.token.Token.TheVariants.{Number, Node, Value, Start}
 use Rattle.cards.specs.Cards.{right, wanted, byte_of}
-use Rattle.cards.specs.Numerals.{is_digit, all_digits, decimal, plain, over, slash, value_digits, ratio, number_digits, figured, word_of, is_whole}
+use Rattle.cards.specs.Numerals.{is_digit, all_digits, read_digits, plain, over, slash, value_digits, ratio, number_digits, figured, word_of, is_whole}
 use Rattle.std.proofs.lemmas.List.Quantifiers.{position-Some}
 use Rattle.std.specs.List.{position}
 use Rattle.std.specs.Option.{unwrap_or}
@@ -19,29 +19,29 @@ use Rattle.cards.proofs.Pieces.{reach_found}
 pub record Sofar (text : List ℕ) (i n : ℕ) : Type 0 where
   pub small : n < 10 ^ i
   pub digits : all_digits (drop i text) ≡ all_digits text
-  pub value : decimal n (drop i text) ≡ decimal 0 text
+  pub value : read_digits n (drop i text) ≡ read_digits 0 text
 
 -- digits write less than a power of ten
-decimal-lt : (n : ℕ) (bs : List ℕ) → all_digits bs ≡ true → decimal n bs < (n + 1) * 10 ^ length bs
-decimal-lt n [] all = omega arith
-decimal-lt n (b ∷ bs) all =
+digits_below : (n : ℕ) (bs : List ℕ) → all_digits bs ≡ true → read_digits n bs < (n + 1) * 10 ^ length bs
+digits_below n [] all = omega arith
+digits_below n (b ∷ bs) all =
     let parts = and_parts (is_digit b) (all_digits bs) all in
     let high = leb-true b 57 (and_parts (leb 48 b) (leb b 57) parts.0).1 in
     let less : n * 10 + (b - 48) + 1 ≤ (n + 1) * 10 = omega arith in
     let room : 10 ^ suc (length bs) ≡ 10 * 10 ^ length bs = pow-succ' 10 (length bs) in
     let grown : (n * 10 + (b - 48) + 1) * 10 ^ length bs ≤ (n + 1) * 10 * 10 ^ length bs = mul-le-mul_right (10 ^ length bs) less in
     let same : (n + 1) * 10 * 10 ^ length bs ≡ (n + 1) * (10 ^ suc (length bs)) = mul_assoc (n + 1) 10 (10 ^ length bs) ∙ ap (λ k. (n + 1) * k) (sym room) in
-    omega (arith, decimal-lt (n * 10 + (b - 48)) bs parts.1, grown, same)
+    omega (arith, digits_below (n * 10 + (b - 48)) bs parts.1, grown, same)
 
 pub plain-lt : (most : ℕ) (text : List ℕ) (n : ℕ) → plain most text ≡ Some n → n < 10 ^ most
 plain-lt most text n e = go (ltb 0 (length text) && (leb (length text) most && all_digits text)) refl e
   where
-    go : (t : Bool) → (ltb 0 (length text) && (leb (length text) most && all_digits text)) ≡ t → cond t (Some (decimal 0 text)) None ≡ Some n → n < 10 ^ most
+    go : (t : Bool) → (ltb 0 (length text) && (leb (length text) most && all_digits text)) ≡ t → cond t (Some (read_digits 0 text)) None ≡ Some n → n < 10 ^ most
     go true is e =
         let two = and_parts (leb (length text) most) (all_digits text) (and_parts (ltb 0 (length text)) _ is).1 in
         let few = leb-true (length text) most two.0 in
-        let value : decimal 0 text ≡ n = cc in
-        let small : decimal 0 text < (0 + 1) * 10 ^ length text = decimal-lt 0 text two.1 in
+        let value : read_digits 0 text ≡ n = cc in
+        let small : read_digits 0 text < (0 + 1) * 10 ^ length text = digits_below 0 text two.1 in
         let room : 10 ^ length text ≤ 10 ^ most = pow-le-pow_right (omega arith) few in
         omega arith
     go false is e = let z : ◌≡◌ {A = ℕ} 0 1 = cc in absurd (omega arith)

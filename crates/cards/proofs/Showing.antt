@@ -3,7 +3,7 @@ use Rattle.std.proofs.Common.{◌≡◌, ℕ, suc, ◌+◌, ◌<◌, ◌≤◌, 
 use Rattle.std.proofs.lemmas.List.{take_at, length-append}
 use Rattle.std.proofs.lemmas.Bool.{false≢true, and_parts, ltb-true, leb-true, lt-ltb, le-leb, eqb-true, eq-eqb, ne_eqb, cond-true}
 use Rattle.cards.specs.declared.numeral.Numeral.{Numeral}
-use Rattle.cards.specs.Numerals.{is_digit, all_digits, decimal, plain, over, slash, value_digits, ratio, negated, signed}
+use Rattle.cards.specs.Numerals.{is_digit, all_digits, read_digits, plain, over, slash, value_digits, ratio, negated, signed}
 use Rattle.cards.specs.Parts.{reach, further, parts}
 use Rattle.cards.specs.Shapes.{Lacks, Digits, Writes, Ratio, Shows}
 use Rattle.cards.proofs.Figures.{ratio-whole}
@@ -39,18 +39,18 @@ fit most bs = ltb 0 (length bs) && (leb (length bs) most && all_digits bs)
 pub plain_writes : (most : ℕ) (bs : List ℕ) (n : ℕ) → plain most bs ≡ Some n → Writes most bs n
 plain_writes most bs n e = go (fit most bs) refl e
   where
-    go : (t : Bool) → fit most bs ≡ t → cond t (Some (decimal 0 bs)) None ≡ Some n → Writes most bs n
+    go : (t : Bool) → fit most bs ≡ t → cond t (Some (read_digits 0 bs)) None ≡ Some n → Writes most bs n
     go true is e =
         let one = and_parts (ltb 0 (length bs)) (leb (length bs) most && all_digits bs) is in
         let two = and_parts (leb (length bs) most) (all_digits bs) one.1 in
-        let value : decimal 0 bs ≡ n = cc in
+        let value : read_digits 0 bs ≡ n = cc in
         record { some = ltb-true 0 (length bs) one.0; few = leb-true (length bs) most two.0; digits = digits_from bs two.1; is = value }
     go false is e = some_none n (sym e)
 
 pub writes_plain : (most : ℕ) (bs : List ℕ) (n : ℕ) → Writes most bs n → plain most bs ≡ Some n
 writes_plain most bs n h =
     let all : fit most bs ≡ true = λ i. lt-ltb 0 (length bs) h.some i && (le-leb (length bs) most h.few i && digits_all bs h.digits i) in
-    cond-true (fit most bs) (Some (decimal 0 bs)) None all ∙ ap Some h.is
+    cond-true (fit most bs) (Some (read_digits 0 bs)) None all ∙ ap Some h.is
 
 -- ratios
 

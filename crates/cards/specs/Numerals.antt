@@ -4,7 +4,7 @@
 -- value_digits    the most digits of a value's or a start's whole numbers
 -- is_digit        a byte from 48 to 57
 -- all_digits      nothing but digits
--- decimal         the number that digits write after n
+-- read_digits     the number that digits write after n
 -- plain           the number that a text of digits writes, if it has at least one and at most so many
 -- over            one number over another, where there are both
 -- slash           the byte between them
@@ -38,12 +38,12 @@ abbrev pub all_digits : List ℕ → Bool
 all_digits [] = true
 all_digits (b ∷ bs) = is_digit b && all_digits bs
 
-abbrev pub decimal : ℕ → List ℕ → ℕ
-decimal n [] = n
-decimal n (b ∷ bs) = decimal (n * 10 + (b - 48)) bs
+abbrev pub read_digits : ℕ → List ℕ → ℕ
+read_digits n [] = n
+read_digits n (b ∷ bs) = read_digits (n * 10 + (b - 48)) bs
 
 abbrev pub plain : ℕ → List ℕ → Option ℕ
-plain most text = cond (nat_lt 0 (length text) && (nat_le (length text) most && all_digits text)) (Some (decimal 0 text)) None
+plain most text = cond (nat_lt 0 (length text) && (nat_le (length text) most && all_digits text)) (Some (read_digits 0 text)) None
 
 abbrev pub over : Option ℕ → Option ℕ → Option Numeral
 over (Some n) (Some d) = Some (record { minus = false; top = n; under = d })

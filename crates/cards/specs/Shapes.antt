@@ -17,7 +17,7 @@
 use Rattle.std.specs.Prelude.{◌≡◌, ℕ, ◌+◌, ◌<◌, ◌≤◌, Bool, true, false, ◌⊎◌, List, [], ◌∷◌, ◌++◌, length, ◌≢◌}
 use Rattle.cards.specs.declared.numeral.Numeral.{Numeral}
 use Rattle.cards.specs.Fields.{Word, word_end}
-use Rattle.cards.specs.Numerals.{decimal, slash, value_digits}
+use Rattle.cards.specs.Numerals.{read_digits, slash, value_digits}
 
 abbrev pub Lacks : ℕ → List ℕ → Type 0
 Lacks s [] = Unit {0}
@@ -68,7 +68,7 @@ pub record Writes (most : ℕ) (bs : List ℕ) (n : ℕ) : Type 0 where
   pub some : 0 < length bs
   pub few : length bs ≤ most
   pub digits : Digits bs
-  pub is : decimal 0 bs ≡ n
+  pub is : read_digits 0 bs ≡ n
 
 pub record Over (bs : List ℕ) (n d : ℕ) : Type 0 where
   pub top : List ℕ

@@ -3,6 +3,7 @@
 -- fresh_trace   all zero
 -- lesser        the new voltage where it is strictly below the old, else the old
 -- greater       the new voltage where it is strictly above the old, else the old
+-- with_taking   the trace with one more voltage: the first is least, greatest and last
 -- taken         the answer to a taking, with the trace after it
 -- left          the trace after an answer: a refused taking leaves it as it was
 -- more_granted  the voltages granted, one more where the answer is granted
@@ -12,6 +13,7 @@
 -- Sums          a trace sums up a list of granted voltages
 -- after_all     the trace after a list of takings
 -- granted_of    the voltages of a list of takings that were granted
+-- if_granted    the list with a voltage in front where the answer is granted
 use Rattle.std.specs.Prelude.{◌≡◌, ℕ, ◌+◌, ◌-◌, ◌<◌, cond, not, T, List, [], ◌∷◌, ◌++◌, length, ◌==◌, nat_le, slice_index_or, Float}
 use Rattle.std.specs.Float.Ieee.{lt, le}
 use Rattle.std.specs.Float.{float_is_finite}

@@ -12,6 +12,7 @@
 -- two_currents        two current sources in one ring
 -- opposed             resistors of 1 and of -1 ohms side by side
 -- bridge              two inductors, two resistors and a capacitor
+-- KnownResults        all known answers together
 use Rattle.std.specs.Prelude.{◌≡◌, ℕ, ◌<◌, ◌≤◌, true, false, List, [], ◌∷◌, map, length, pos, negsuc, Some, Result, slice_index}
 use Rattle.std.specs.Float.{fin}
 use Rattle.std.specs.List.{range_with_len}

@@ -6,9 +6,12 @@
 -- tree_line        `tree` with the members of the tree
 -- row_line         `loop` or `cut` with the row's branch and its signed members
 -- row_lines        the line of a row, where there is one
+-- loop_lines       the line of a place's loop row, if it has one
+-- cut_lines        the line of its cut row, if it has one
 -- network_lines    the tree, a line for each link, a line for each tree branch
 -- refused_line     `refused`, the number, and the signed members of a shown loop or cut
 -- fault_line       `refused`, the number, and the line and byte of the fault
+-- shown_words      the signed members of a shown loop or cut
 -- refusal_of       the refusal of what stands in the way of a block
 -- stop_words       the words after `refused` of what stands in the way of a block
 -- stop_line        that line
@@ -16,11 +19,16 @@
 -- one_step         a sheet after one step of length 1
 -- reading_here     the reading at a place, none where the place is empty
 -- readings_below   those of the places below a number, or the first refusal
+-- readings_after   the readings after one step, or the first refusal
+-- reading_line     the `mv` line of a place, if it has a reading
 -- reading_lines    `mv`, the number and the reading, for each branch
 -- step_lines       the block of readings of a sheet
 -- remainders_line  `res`, the number, the current and the voltage
+-- remainder_line   such a line for a place, if a branch stands there
 -- remainder_lines  such a line for each branch
+-- or_fault_by      the lines, or the one fault, by the fault
 -- or_fault         the lines of a sheet that was read, or the one fault
+-- residue_step_lines   the lines of a sheet after one step in remainders, or its refusal
 -- residue_lines    the block of remainders of a text of cards
 -- residue_lines_read   the lines of a sheet that was read and stepped, or of what stands in its way
 use Rattle.std.specs.Prelude.{ℕ, zero, suc, Bool, true, false, cond, List, [], ◌∷◌, ◌++◌, ℤ, Some, None, Ok, Err, codes, decimal, Option, Result, slice_index_or, Float}

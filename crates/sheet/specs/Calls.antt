@@ -9,8 +9,18 @@
 -- takes_value   not refused by 8: sound, and on a resistor, an inductor or a capacitor fit to be divided by
 -- takes_start   not refused by 9: sound, and zero but on an inductor or a capacitor
 -- first_row     the row of a branch just placed: an inductor starts with a current, a capacitor with a voltage
+-- known         a kind, if there is one; else 5
+-- joining       two nodes as ends, once it is known whether each is below 16 and whether they differ; else 6 or 7
+-- drawn         two nodes as ends, or 6 or 7
+-- admitted      the branch and the first row of a placement, or 5 to 9
+-- present       the branch that stands at a place, or 4
+-- on_place      1 and 2, which every call on a place meets
+-- revalued      a row with another value
+-- blanked, placed, lifted, value_set
+--               what each of the four calls answers
 -- outcome       the answer of a call: granted with the sheet that it makes, or refused
 -- left          the sheet after an answer: a refused call leaves it as it was
+-- Does          a call of the program does what the outcome says: this verdict, and this plan and these rows after it
 use Rattle.std.specs.Prelude.{◌≡◌, ℕ, ◌<◌, Bool, not, ◌&&◌, List, [], length, replicate, is_some, Some, None, Option, ◌==◌, nat_lt, slice_index_or, slice_set}
 use Rattle.std.proofs.Math.Decide.{dec_lt, ℕ_discrete}
 use Rattle.arithmetic.specs.Ops.{Ops, may_divide}

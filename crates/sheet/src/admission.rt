@@ -12,7 +12,7 @@ use crate::row::Row;
 use arithmetic::{Arithmetic, may_divide};
 
 // Refusals 5 to 9 in that order, or the branch with its first row: an inductor starts with a current, a capacitor with a
-// voltage. One match decides it all, by a rule of the engine.
+// voltage. One match over kinds decides it all, with guards on value and start.
 pub(crate) fn admit<N: Arithmetic>(p: Placement<N>) -> Result<(Branch, Row<N>), Refusal>
     ensures { told result ≡ admitted (valued N.ops N.mean N.nil) p }
 {

@@ -4,7 +4,7 @@ use Rattle.std.proofs.lemmas.List.{append-nil, length-append}
 use Rattle.sheet.specs.Refusals.{granted, refuse, Verdict}
 use Rattle.slips.specs.Bits.{put_bits, low, zeroed}
 use Rattle.slips.specs.declared.row.SlipRow.{SlipRow}
-use Rattle.slips.specs.Slips.{Slip, is_row, row_bits, rows_bits, slip_bits, next_of, Rising, Proper}
+use Rattle.slips.specs.Slips.{Slip, is_row, row_bits, rows_bits, slip_bits, next_of, Rising}
 use Rattle.slips.specs.Writing.{opened, row_answer, kept, Given, Past, Packed, Holds, with_row, ReadsBack}
 use Rattle.slips.proofs.Ending.{opened_wide}
 use Rattle.slips.proofs.Packing.{packed_bits, packed_none, past_bits, small_low}

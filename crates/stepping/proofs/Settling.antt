@@ -97,9 +97,6 @@ module _ {V M : Type 0} (o : Ops M) (mean : V → M) (h : M) (plan : Plan) (rows
   pub is_unsound : true ≡ (solving o (step_parts o h sheet)).ok → unsound o plan (step_result o h sheet) ≡ true → refused (record { number = 15; words = [] }) ≡ settled o h sheet
   is_unsound e d = λ i. refuse 14 (not (e i)) (refuse 15 (sym d i) (granted (record { plan = plan; rows = renewed_rows o plan (map (meant_row mean) rows) (step_result o h sheet) })))
 
-  pub no_pivot : false ≡ (solving o (step_parts o h sheet)).ok → refused (record { number = 14; words = [] }) ≡ settled o h sheet
-  no_pivot e = λ i. refuse 14 (not (e i)) (refuse 15 (unsound o plan (step_result o h sheet)) (granted (record { plan = plan; rows = renewed_rows o plan (map (meant_row mean) rows) (step_result o h sheet) })))
-
   pub settles-granted :
       (rows' : List (Row V)) → true ≡ (solving o (step_parts o h sheet)).ok → unsound o plan (step_result o h sheet) ≡ false →
       map (meant_row mean) rows' ≡ renewed_rows o plan (map (meant_row mean) rows) (step_result o h sheet) → map given rows' ≡ map given rows → Others plan rows rows' → Settles o mean h plan rows pass rows'

@@ -10,7 +10,7 @@
 use Rattle.std.specs.Prelude.{◌≡◌, ℕ, ◌^◌, ◌<◌, Bool, true, false}
 use Rattle.graphs.specs.Cuts.{leaves}
 use Rattle.graphs.specs.Graph as graphs
-use Rattle.graphs.specs.Graph.{Graph, Set, plus, none, minus, with}
+use Rattle.graphs.specs.Graph.{Graph, Set, plus, none, minus}
 use Rattle.graphs.specs.Labels.{joins}
 use Rattle.sheet.specs.declared.refusal.Shown.{Shown}
 use Rattle.topology.specs.declared.sign.Sign.{Sign}
