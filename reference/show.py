@@ -75,7 +75,7 @@ def main():
     a = engine.Binary64
     sheet = engine.Sheet(a)
     try:
-        engine.read_cards(sheet, sys.stdin.buffer.read())
+        engine.read_cards(sheet, sys.stdin.buffer.read(4096))
     except engine.CardFault as fault:
         line(engine.fault_line(fault).rstrip("\n"))
         return
