@@ -21,20 +21,21 @@ fn replay_part(
     replay_story(stream, line)
 }
 
-// Every part up to the line `end`, after which nothing may come.
+// Every part up to the line `end`, which has to come and after which nothing may.
 fn replay_parts(heap: Global, stream: &mut Stream, progress: &mut Progress) -> Result<(), Stop> {
     // Counted by what is left, as the calls of a story are.
     for _ in 0..stream.left() {
         let line = stream.line().ok_or(Stop::Unreadable)?;
         if line == b"end".as_slice() {
-            break;
+            return expect_nothing(stream);
         }
         replay_part(heap, stream, line, progress)?;
     }
-    if stream.left() > 0 {
-        return Err(Stop::Unreadable);
-    }
-    Ok(())
+    Err(Stop::Unreadable)
+}
+
+fn expect_nothing(stream: &Stream) -> Result<(), Stop> {
+    (stream.left() == 0).then_some(()).ok_or(Stop::Unreadable)
 }
 
 // Replays a stream up to the first answer that is not the expected one.
