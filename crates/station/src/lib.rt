@@ -5,6 +5,9 @@
 ghost use Rattle.std.specs.Prelude.{◌≡◌, length};
 ghost use Rattle.station.specs.Station.{in_front, Keyed, mark_of};
 
+#[cfg(test)]
+mod tests;
+
 use printed_key::{read_circuit, whole_key};
 use std::alloc::Global;
 
