@@ -82,6 +82,19 @@ module _ {M : Type 0} (G : Group M) where
       total : (a : ℕ) → a < n → sum G (at a) n ≡ cond (N a) u G.zero
       total a l = sum_one G (at a) a n l (λ x d. ap (λ b. cond (N x) (cond b u G.zero) G.zero) (ne_eqb x a d) ∙ both_zero (N x)) ∙ ap (λ b. cond (N a) (cond b u G.zero) G.zero) (eq-eqb a a refl)
 
+  -- the fall over a branch, by incidence
+  pub fall_incidence : (g : Graph) (f : ℕ → M) (n k : ℕ) → g.tail k < n → g.head k < n → sum G (λ x. times G (incidence g x k) (f x)) n ≡ fall G g f k
+  fall_incidence g f n k lt lh =
+      sum_cong G _ (λ x. G.add (at (g.tail k) x) (G.neg (at (g.head k) x))) n (λ x. times-diff G (eqb x (g.tail k)) (eqb x (g.head k)) (f x))
+      ∙ sum-add G (at (g.tail k)) (λ x. G.neg (at (g.head k) x)) n
+      ∙ ap₂ G.add (total (g.tail k) lt) (sum_neg G (at (g.head k)) n ∙ ap G.neg (total (g.head k) lh))
+    where
+      at : ℕ → ℕ → M
+      at a x = cond (eqb x a) (f x) G.zero
+
+      total : (a : ℕ) → a < n → sum G (at a) n ≡ f a
+      total a l = sum_one G (at a) a n l (λ x d. cond-false (eqb x a) (f x) G.zero (ne_eqb x a d)) ∙ cond-true (eqb a a) (f a) G.zero (eq-eqb a a refl)
+
   -- leaving a side or entering it
   leave : (s : Bool) (d : M) → times G (diff true s) d ≡ G.add d (times G (diff false s) d)
   leave true d = sym (G.inverse d)

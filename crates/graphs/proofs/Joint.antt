@@ -12,8 +12,8 @@ use Rattle.graphs.proofs.Trails.{shorten, free_independent, independent_free, ke
 use Rattle.graphs.proofs.Rank.{components-with, components_same, forest, rank}
 use Rattle.graphs.proofs.Greedy.{kept_spans, listed-append, greedy_front_same, greedy-turn, greedy_tree, greedy_most}
 use Rattle.graphs.proofs.Classes.{trees_same, most_up_to, refused_loop, late-cut, proper_greedy, most_first, fewest_last}
-use Rattle.graphs.proofs.Order.{order_lists, order_sorted}
-use Rattle.graphs.proofs.CutRows.{row_own, row_other, cut_row_lem, cut_alone, cut-incidence, row_falls}
+use Rattle.graphs.proofs.Order.{order_lists, order_sorted, members_sorted}
+use Rattle.graphs.proofs.CutRows.{row_own, row_other, cut_row_lem, cut_alone, cut-incidence, fall_incidence, row_falls}
 use Rattle.graphs.proofs.LoopRows.{loop_row_lem, loop_falls, row_leaves, loop_leaves, loop_cut}
 use Rattle.graphs.proofs.Balances.{nodes_cuts, falls_links, links_loops}
 
@@ -84,6 +84,7 @@ laws G g S m n low f =
     record {
       falls = λ f k w. row_falls G g S m free low f k w;
       columns = λ u x k w. row_leaves G g S m free low (eqb x) u k w;
+      transposed = λ f k lt lh. fall_incidence G g f n k lt lh;
       side-sum = λ u t k lt lh. cut-incidence G g (side g S m t) n k u lt lh;
       around = λ f k l out w. loop_falls G g S m free low f k l out w;
       loop_incidence = λ u x k l out w. loop_leaves G g S m free low (eqb x) u k l out w;
@@ -104,6 +105,7 @@ theory N = record {
   counting = counting;
   as_many = trees_same;
   listing = λ g m n c P class b ends f. record { below = b; ends = ends; lists = order_lists class P m c b f; sorted = order_sorted class P m c };
+  ascending = members_sorted;
   best = best;
   proper = proper;
   rows = rows;

@@ -76,6 +76,20 @@ sorted_append class [] rs s r f = r
 sorted_append class (k ∷ fs) rs s r f =
     (λ j h. elim (append_cases fs rs j h) [ inl i ↦ s.0 j i | inr i ↦ f k j (or_left (eqb k k) (listed fs k) (eq-eqb k k refl)) i ], sorted_append class fs rs s.1 r (λ i j u v. f i j (or_right (eqb i k) (listed fs i) u) v))
 
+-- by the numbers themselves
+pub members_sorted : (S : Set) (m : ℕ) → Sorted (λ k. k) (members S m)
+unfolding members Sorted listed
+members_sorted S zero = tt
+members_sorted S (suc m) = sorted_append (λ k. k) (members S m) (cond (S m) (m ∷ []) []) (members_sorted S m) (last (S m)) (λ i j u v. omega (arith, (members-from S m i u).1, same_as_last (S m) j v))
+  where
+    same_as_last : (b : Bool) (j : ℕ) → j ∈ listed (cond b (m ∷ []) []) → j ≡ m
+    same_as_last true j h = elim (or_cases (eqb j m) false h) [ inl d ↦ eqb-true j m d | inr d ↦ absurd (false≢true d) ]
+    same_as_last false j h = absurd (false≢true h)
+
+    last : (b : Bool) → Sorted (λ k. k) (cond b (m ∷ []) [])
+    last true = sorted_level (λ k. k) m (m ∷ []) (λ j h. same_as_last true j h)
+    last false = tt
+
 pub order_sorted : (class : ℕ → ℕ) (P : Set) (m c : ℕ) → Sorted class (in_order class P m c)
 unfolding in_order Sorted
 order_sorted class P m zero = tt

@@ -3,7 +3,7 @@ use Rattle.std.specs.Prelude.{◌≡◌, ℕ, suc, ◌+◌, ◌<◌, ◌≤◌, 
 use Rattle.graphs.specs.Graph.{Graph, Set, ◌∈◌, ◌⊆◌, with, without, both, count, Below, Ends, Walk, Spans, Trail, listed, Loop, LoopAlong, way_around, LoopFree, Independent, Tree, plus, none}
 use Rattle.graphs.specs.Labels.{label, components}
 use Rattle.graphs.specs.Cuts.{cut, side, cut_row, loop_row, incidence}
-use Rattle.graphs.specs.Greedy.{greedy, Sorted, in_order, up_to, of_class, LateCut, Proper}
+use Rattle.graphs.specs.Greedy.{greedy, Sorted, members, in_order, up_to, of_class, LateCut, Proper}
 use Rattle.graphs.specs.Groups.{Group, sum, sum_over, times, fall}
 
 -- nodes are joined exactly if they have one label, the least node of their part
@@ -71,6 +71,8 @@ pub record RowLaws {M : Type 0} (G : Group M) (g : Graph) (S : Set) (m n : ℕ) 
   pub falls : (f : ℕ → M) (k : ℕ) → Spans g S k → fall G g f k ≡ sum_over G S (λ t. times G (cut_row g S m t k) (fall G g f t)) m
   -- incidence is its columns in S times the cut rows
   pub columns : (u : M) (x k : ℕ) → Spans g S k → times G (incidence g x k) u ≡ sum_over G S (λ t. times G (cut_row g S m t k) (times G (incidence g x t) u)) m
+  -- a function of nodes, summed by a column of incidence, is its fall from tail to head
+  pub transposed : (f : ℕ → M) (k : ℕ) → g.tail k < n → g.head k < n → sum G (λ x. times G (incidence g x k) (f x)) n ≡ fall G g f k
   -- a cut row is the sum of the incidence rows of the nodes on the tail's side
   pub side-sum : (u : M) (t k : ℕ) → g.tail k < n → g.head k < n → sum_over G (side g S m t) (λ x. times G (incidence g x k) u) n ≡ times G (cut_row g S m t k) u
   -- around a link's loop a function of nodes falls by nothing
@@ -96,6 +98,8 @@ pub record TheoryOfTrees (N : Type 0) : Type 0 where
   pub counting : (g : Graph) (S : Set) (m n : ℕ) → Counting g S m n
   pub as_many : (g : Graph) (P S T : Set) (m n : ℕ) → Below m P → Ends n g P → Tree g P S → Tree g P T → count S m ≡ count T m
   pub listing : (g : Graph) (m n c : ℕ) (P : Set) (class : ℕ → ℕ) → Below m P → Ends n g P → ((k : ℕ) → k ∈ P → class k < c) → Listing g m n P class (in_order class P m c)
+  -- within a class lower numbers come first
+  pub ascending : (S : Set) (m : ℕ) → Sorted (λ k. k) (members S m)
   pub best : (g : Graph) (m n : ℕ) (P : Set) (class : ℕ → ℕ) (ks : List ℕ) → Listing g m n P class ks → BestTree g m P class ks
   pub proper : (g : Graph) (m n : ℕ) (P : Set) (class : ℕ → ℕ) (ks : List ℕ) → Listing g m n P class ks → ((k : ℕ) → k ∈ P → class k ≤ 4) → BestProper g m P class ks
   pub rows : (g : Graph) (S : Set) (m : ℕ) → Below m S → LoopFree g S → Rows g S m
