@@ -19,6 +19,7 @@ fn short_buffer(rt: HostRuntime) -> Result<(), Fail> {
     let mut buffer = [7u8; 35];
     assert_eq!(rt; covshurii_key(rt.alloc(), CARDS, &mut buffer), 36);
     assert!(rt; buffer == [7; 35]);
+    assert_eq!(rt; covshurii_key(rt.alloc(), CARDS, &mut []), 36);
     Ok(())
 }
 
