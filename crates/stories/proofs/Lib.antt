@@ -18,3 +18,4 @@ pub mod Calls
 pub mod Sheets
 pub mod Sums
 pub mod Theorem
+pub mod Called

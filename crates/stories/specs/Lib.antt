@@ -5,3 +5,4 @@ pub mod Steps
 pub mod Stories
 pub mod Laws
 pub mod Theorem
+pub mod Called

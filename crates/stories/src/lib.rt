@@ -2,6 +2,7 @@
 #![tactic(auto)]
 
 ghost use Rattle.std.specs.Prelude.{T};
+ghost use Rattle.stories.specs.Called.{CallShows};
 ghost use Rattle.stories.specs.Theorem.{BestTrees, AnyArea, TreesOfStories, TheoremOfStories, TreesShowing, TheoremShowing};
 
 use arithmetic::Arithmetic;
@@ -18,10 +19,12 @@ pub fn areas_of_steps<N: Arithmetic>()
 {}
 
 // In every arithmetic, after every story: a step meets neither 12 nor 13 exactly if some tree has every voltage source
-// and no current source; the tree that the tree's call then grants, and the one that is kept, is the best of these.
+// and no current source; the tree that the tree's call then grants, and the one that is kept, is the best of these. Of
+// the calls that show something at 12 and 13 the tree's call is one.
 pub fn trees_of_stories<N: Arithmetic>()
     ensures by_call { TreesOfStories N.ops }
     ensures showing { TreesShowing N.ops }
+    ensures call_shows { CallShows }
 {}
 
 // In an exact arithmetic, after every story: a step is granted exactly if only the zero list is dead, and its rows are
