@@ -50,7 +50,7 @@ fn stepped_readings(sheet: &mut CardSheet<f64>) -> Result<[Option<i32>; 32], Ref
 }
 
 // `mv 1 4000` for each branch.
-fn push_taken(text: &mut String, readings: &[Option<i32>; 32]) -> Result<(), AllocError>
+fn push_voltages(text: &mut String, readings: &[Option<i32>; 32]) -> Result<(), AllocError>
     ensures { Adds result (string_bytes text.old) (string_bytes text.new) (text_of (reading_lines readings.now)) }
 {
     for (k, reading) in readings.iter().enumerate() {
@@ -66,7 +66,7 @@ pub(crate) fn push_readings(text: &mut String, sheet: &mut CardSheet<f64>) -> Re
     ensures { Adds result (string_bytes text.old) (string_bytes text.new) (text_of (step_lines (record { plan = sheet.old.plan; rows = sheet.old.rows }))) }
 {
     match stepped_readings(sheet) {
-        Ok(readings) => push_taken(text, &readings),
+        Ok(readings) => push_voltages(text, &readings),
         Err(refusal) => writeln!(text, "{}", Stop::Refused(refusal)),
     }
 }

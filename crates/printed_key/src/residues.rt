@@ -28,7 +28,7 @@ fn stepped_residues(input: &[u8]) -> Result<CardSheet<u16>, Stop>
 }
 
 // `res 0 8189 6` for each branch.
-fn push_places(text: &mut String, sheet: &CardSheet<u16>) -> Result<(), AllocError>
+fn push_remainders(text: &mut String, sheet: &CardSheet<u16>) -> Result<(), AllocError>
     ensures { Adds result (string_bytes text.old) (string_bytes text.new) (text_of (remainder_lines (meant_sheet residue (record { plan = sheet.now.plan; rows = sheet.now.rows })))) }
 {
     for k in 0..32 {
@@ -46,7 +46,7 @@ pub(crate) fn push_residues(text: &mut String, input: &[u8]) -> Result<(), Alloc
     ensures { Adds result (string_bytes text.old) (string_bytes text.new) (text_of (residue_lines input.now)) }
 {
     match stepped_residues(input) {
-        Ok(sheet) => push_places(text, &sheet),
+        Ok(sheet) => push_remainders(text, &sheet),
         Err(stop) => writeln!(text, "{stop}"),
     }
 }

@@ -7,7 +7,7 @@ use Rattle.printed_key.proofs.readings.push_readings.Goals as goal
 
 pub returns-in-Ok : goal.returns-in-Ok
 unfolding step_lines
-returns-in-Ok c = adds_same _ _ _ _ _ (ap (λ a. text_of (or_refused reading_lines a)) c.in-Ok.ensures) c.push_taken.ensures
+returns-in-Ok c = adds_same _ _ _ _ _ (ap (λ a. text_of (or_refused reading_lines a)) c.in-Ok.ensures) c.push_voltages.ensures
 
 pub returns-in-Err : goal.returns-in-Err
 unfolding step_lines

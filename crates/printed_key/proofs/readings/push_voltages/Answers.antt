@@ -2,8 +2,8 @@ use Rattle.std.proofs.Common.{◌≡◌, ◌++◌, get_or, Some, None, string_by
 use Rattle.printed_key.specs.Blocks.{reading_line}
 use Rattle.printed_key.specs.Text.{text_of}
 use Rattle.printed_key.proofs.Adding.{no_lines, more_lines, no_line, line_end, word_before, line_added}
-use Rattle.printed_key.proofs.readings.push_taken.Goals as goal
-use Rattle.printed_key.proofs.readings.push_taken.Goals.{in-Some+in_ok-writeln, in_default}
+use Rattle.printed_key.proofs.readings.push_voltages.Goals as goal
+use Rattle.printed_key.proofs.readings.push_voltages.Goals.{in-Some+in_ok-writeln, in_default}
 use mir.Val.{to_z, of_z}
 
 pub loop-k-init : goal.loop-k-init

@@ -6,8 +6,8 @@ use Rattle.printed_key.specs.Blocks.{remainder_line, remainders_line}
 use Rattle.printed_key.specs.Text.{text_of}
 use Rattle.printed_key.proofs.Adding.{no_lines, more_lines, no_line, line_end, word_before, line_added}
 use Rattle.printed_key.proofs.Looking.{look_line, seen_meant}
-use Rattle.printed_key.proofs.residues.push_places.Goals as goal
-use Rattle.printed_key.proofs.residues.push_places.Goals.{in-Some+in_ok-writeln, in_default}
+use Rattle.printed_key.proofs.residues.push_remainders.Goals as goal
+use Rattle.printed_key.proofs.residues.push_remainders.Goals.{in-Some+in_ok-writeln, in_default}
 
 pub loop-k-init : goal.loop-k-init
 loop-k-init c = no_lines _ _

@@ -4,7 +4,7 @@ use Rattle.sheet.specs.Looks.{seen}
 use Rattle.sheet.specs.Meanings.{meant_row}
 use Rattle.printed_key.specs.Blocks.{remainder_line}
 use Rattle.printed_key.specs.Text.{text_of, listed}
-use Rattle.printed_key.proofs.residues.push_places.Given as goal
+use Rattle.printed_key.proofs.residues.push_remainders.Given as goal
 
 abbrev pub invariant-loop-k : goal.invariant-loop-k
 invariant-loop-k l =
