@@ -41,7 +41,7 @@ def clone_in(where):
 
 
 def by_facts(crate, edits, clone):
-    """Tries bugs that the contracts refuse, all of a crate in one run; answers the names of those that pass."""
+    """Tries bugs that the contracts refuse, all of a crate in one run; answers whether each was refused."""
     folder = clone / "crates" / crate / "must-fail"
     folder.mkdir(exist_ok=True)
     for old in folder.glob("*.edit"):
@@ -78,7 +78,7 @@ def changed_text(edit, clone, crate):
 
 
 def by_tests(crate, edit, clone):
-    """Tries a bug that tests catch: they pass without it, its own crate is proved with it, and they fail with it."""
+    """Tries a bug that tests catch: its own crate is proved with it, and the other crate fails with it."""
     catcher = changed_text(edit, clone, crate)
     proved, said = run(["rt", "check"], clone / "crates" / crate)
     failed, told = run(["rt", "ci", catcher], clone)
