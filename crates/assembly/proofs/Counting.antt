@@ -7,8 +7,8 @@ use Rattle.std.proofs.lemmas.Nat.{mod-pow-add, shr-shr}
 use Rattle.std.proofs.lemmas.Simd.{ones-mask_l}
 use lib.Lanes.{mask_l}
 use Rattle.graphs.specs.Graph.{Set, count}
-use Rattle.topology.specs.Words.{bits}
-use Rattle.topology.proofs.Bits.{bits_past, bit_value}
+use Rattle.networks.specs.Words.{bits}
+use Rattle.networks.proofs.Bits.{bits_past, bit_value}
 use Rattle.assembly.proofs.Reading.{counted}
 
 one_digit : (n k : ℕ) → cond (bits n k) 1 0 ≡ n / 2 ^ k % 2

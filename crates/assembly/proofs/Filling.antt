@@ -6,7 +6,7 @@ use Rattle.graphs.specs.Graph.{◌∈◌}
 use Rattle.graphs.specs.Cuts.{turned}
 use Rattle.stories.specs.Assembly.{Parts}
 use Rattle.stories.specs.Steps.{tree_voltage, voltage_of, flow_of, current_of}
-use Rattle.topology.specs.Words.{bits}
+use Rattle.networks.specs.Words.{bits}
 use Rattle.assembly.specs.declared.frame.Frame.{Frame}
 use Rattle.assembly.specs.Frames.{gathered, Frames}
 use Rattle.assembly.specs.Figures.{in_use, link_voltage, Filled}

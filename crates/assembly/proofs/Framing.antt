@@ -6,7 +6,7 @@ use Rattle.sheet.specs.declared.kind.Kind.TheVariants.{Resistor, Inductor, Capac
 use Rattle.sheet.specs.declared.plan.Plan.{Plan}
 use Rattle.sheet.specs.Plans.{branch_at}
 use Rattle.graphs.specs.Greedy.{up_to}
-use Rattle.topology.specs.Networks.{kind_class, class_found, placed, class_at}
+use Rattle.networks.specs.Networks.{kind_class, class_found, placed, class_at}
 use Rattle.stories.specs.Networks.{kind_found, kind_at, is_passive, is_current, is_voltage}
 
 -- a test of kinds is a test of places

@@ -6,8 +6,8 @@ use Rattle.sheet.specs.declared.refusal.Shown.{Shown}
 use Rattle.arithmetic.specs.Ops.{Ops}
 use Rattle.graphs.specs.Graph.{Set, ◌∈◌, without, Sign, none}
 use Rattle.topology.specs.Matrices.{entry}
-use Rattle.topology.specs.Words.{bits, first}
-use Rattle.topology.proofs.Firsts.{first_member, first_lowest, first-none}
+use Rattle.networks.specs.Words.{bits, first}
+use Rattle.networks.proofs.Firsts.{first_member, first_lowest, first-none}
 use Rattle.stories.specs.Assembly.{through, taken}
 use Rattle.assembly.specs.Frames.{gathered}
 use Rattle.assembly.proofs.Reading.{turn}

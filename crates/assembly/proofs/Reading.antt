@@ -10,7 +10,7 @@ use Rattle.sheet.specs.declared.row.Row.{Row}
 use Rattle.arithmetic.specs.Ops.{Ops}
 use Rattle.graphs.specs.Graph.{Set, count, Sign}
 use Rattle.linear.specs.Elimination.{cell}
-use Rattle.topology.specs.Words.{bits}
+use Rattle.networks.specs.Words.{bits}
 use Rattle.stories.specs.Assembly.{through, taken, Parts, entry_of, levelled, right_of, size, with_row}
 use Rattle.assembly.specs.declared.frame.Frame.{Frame}
 use Rattle.assembly.specs.Frames.{entered, levels_of, Frames, Holds}

@@ -18,10 +18,10 @@ use Rattle.sheet.specs.declared.row.Row.{Row}
 use Rattle.graphs.specs.Graph.{Set, ◌∈◌, count, Sign}
 use Rattle.linear.specs.Elimination.{cell}
 use Rattle.topology.specs.Matrices.{entry}
-use Rattle.topology.specs.Networks.{placed}
+use Rattle.networks.specs.Networks.{placed}
 use Rattle.topology.specs.Rows.{nothing}
 use Rattle.topology.specs.Trees.{CutsOf}
-use Rattle.topology.specs.Words.{bits}
+use Rattle.networks.specs.Words.{bits}
 use Rattle.stories.specs.Networks.{kind_at, is_passive, is_current, is_voltage}
 use Rattle.stories.specs.Assembly.{through, taken, Parts, entry_of, with_row}
 use Rattle.assembly.specs.declared.frame.Frame.{Frame}

@@ -15,7 +15,8 @@ use crate::system::place_among;
 use arithmetic::Arithmetic;
 use linear::{get, place};
 use std::array::from_fn;
-use topology::{has, sign_at};
+use networks::has;
+use topology::sign_at;
 
 impl<'a, N: Arithmetic> Setting<'a, N> {
     // The voltage of a tree branch: a voltage source's own, another's from the right side of its row.

@@ -3,7 +3,8 @@ ghost use Rattle.std.specs.Prelude.{◌≡◌};
 ghost use Rattle.assembly.specs.Frames.{cut_at, FrameOf};
 
 use sheet::{Plan, Shown};
-use topology::{TreeRows, less, no_current_sources, placed_branches, voltage_sources};
+use networks::{less, no_current_sources, placed_branches, voltage_sources};
+use topology::TreeRows;
 
 #[derive(Clone, Copy)]
 pub struct Frame {

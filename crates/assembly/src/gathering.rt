@@ -5,11 +5,12 @@ ghost use Rattle.graphs.specs.Graph.{Set, ◌∈◌};
 ghost use Rattle.stories.specs.Assembly.{taken};
 ghost use Rattle.topology.specs.Matrices.{entry};
 ghost use Rattle.topology.specs.Rows.{sign_of};
-ghost use Rattle.topology.specs.Words.{bits};
+ghost use Rattle.networks.specs.Words.{bits};
 
 use arithmetic::Arithmetic;
 use sheet::Shown;
-use topology::{Sign, common, either, members_of, sign_at};
+use networks::{common, either, members_of};
+use topology::{Sign, sign_at};
 
 // The sum with a term added at plus and subtracted at minus.
 fn take<N: Arithmetic>(sign: Sign, term: N, sum: N) -> N

@@ -5,7 +5,7 @@ ghost use Rattle.stories.specs.Assembly.{agree};
 ghost use Rattle.topology.specs.Matrices.{entry};
 
 use sheet::Shown;
-use topology::{common, either, less};
+use networks::{common, either, less};
 
 // Plus where both rows have equal signs, minus where they have opposite ones.
 pub(crate) fn agreement(a: Shown, b: Shown) -> Shown

@@ -10,7 +10,7 @@ use crate::rows::{agreement, turn_row};
 use arithmetic::Arithmetic;
 use linear::get;
 use sheet::Row;
-use topology::has;
+use networks::has;
 
 // The frame, the area with the companions of the branches, and the rows with the voltages of the sources. The contracts
 // speak of any parts that these have (`Sets`) and of the parts' tree: a ghost field would ask callers for some parts.

@@ -7,14 +7,14 @@ ghost use Rattle.assembly.specs.Frames.{Frames, Holds, Levels, Sets, levels_of, 
 ghost use Rattle.graphs.specs.Graph.{◌∈◌, count};
 ghost use Rattle.linear.specs.Elimination.{cell};
 ghost use Rattle.stories.specs.Assembly.{Parts, entry_of, with_row};
-ghost use Rattle.topology.specs.Words.{bits};
+ghost use Rattle.networks.specs.Words.{bits};
 
 use crate::frame::Frame;
 use crate::setting::Setting;
 use arithmetic::Arithmetic;
 use linear::{place, put};
 use sheet::Row;
-use topology::has;
+use networks::has;
 
 // How many members of a word are below k: the place of k among them.
 pub(crate) fn place_among(word: u32, k: u32) -> u32

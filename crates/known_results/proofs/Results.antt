@@ -13,10 +13,10 @@ use Rattle.graphs.specs.Graph.{count}
 use Rattle.graphs.specs.Labels.{merge, label}
 use Rattle.graphs.specs.Cuts.{cut_row, loop_row}
 use Rattle.graphs.specs.Greedy.{kept, members, in_order}
-use Rattle.topology.specs.Networks.{graph_of, placed, class_at}
+use Rattle.networks.specs.Networks.{graph_of, placed, class_at}
 use Rattle.topology.specs.Rows.{cut_from}
 use Rattle.topology.specs.Trees.{tree_set, voltage_loop, current_cut, tree_of, loop_row_of, cut_row_of}
-use Rattle.topology.specs.Words.{bits, those, first_from}
+use Rattle.networks.specs.Words.{bits, those, first_from}
 use Rattle.slips.specs.Bits.{high, low, word_at, byte_at}
 use Rattle.slips.specs.Entries.{are_entries, entries_bits, entries_of}
 use Rattle.slips.specs.Slips.{Slip, row_bits, rows_bits, slip_bits}

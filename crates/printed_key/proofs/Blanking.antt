@@ -20,10 +20,10 @@ use Rattle.stories.specs.Networks.{kind_at, any}
 use Rattle.stories.specs.Assembly.{through, entry_of, fed, levelled, right_of, blank_area, with_companions, with_row, assembled}
 use Rattle.stories.specs.Steps.{row_at, parts_of, solving, voltage_of, flow_of, current_of, renewed_rows, unsound}
 use Rattle.stories.proofs.Granting.{chain, granted_is}
-use Rattle.topology.specs.Networks.{graph_of, placed, class_at}
+use Rattle.networks.specs.Networks.{graph_of, placed, class_at}
 use Rattle.topology.specs.Rows.{cut_from}
 use Rattle.topology.specs.Trees.{tree_set, voltage_loop, current_cut, tree_of, loop_row_of, cut_row_of}
-use Rattle.topology.specs.Words.{bits, those, first_from}
+use Rattle.networks.specs.Words.{bits, those, first_from}
 use Rattle.printed_key.specs.Blocks.{network_lines, tree_line, readings_below, reading_lines, or_refused, or_fault, one_step, step_lines, remainder_lines, residue_step_lines, residue_lines}
 use Rattle.printed_key.specs.Key.{key_blocks}
 use Rattle.printed_key.specs.Telling.{read_in, Branchless}

@@ -16,7 +16,7 @@ use Rattle.sheet.specs.Kinds.{kind_lettered}
 use Rattle.sheet.specs.Meanings.{meanings}
 use Rattle.sheet.specs.Plans.{with_branch}
 use Rattle.sheet.specs.Refusals.{Answer, granted, refused, refuse, after}
-use Rattle.topology.specs.Networks.{placed}
+use Rattle.networks.specs.Networks.{placed}
 use Rattle.printed_key.specs.Telling.{read_in}
 
 -- a plan with a branch more

@@ -23,8 +23,8 @@ use Rattle.sheet.specs.declared.row.Row.{Row}
 use Rattle.sheet.specs.Calls.{Sheet, present, left}
 use Rattle.sheet.specs.Looks.{seen}
 use Rattle.sheet.specs.Refusals.{Answer, granted, refused, refuse, after, Told}
-use Rattle.topology.specs.Networks.{placed}
-use Rattle.topology.specs.Words.{bits}
+use Rattle.networks.specs.Networks.{placed}
+use Rattle.networks.specs.Words.{bits}
 use Rattle.printed_key.specs.Blocks.{sided, signed_words, shown_words, refused_line, fault_line, or_refused, one_step, reading_here, readings_below, reading_line, reading_lines, readings_after, step_lines, remainder_line, remainder_lines, or_fault_by, residue_step_lines, residue_lines}
 use Rattle.printed_key.specs.Telling.{read_in, figures, SameFigures, Alike, AlikeBy}
 use Rattle.printed_key.specs.Text.{Word, Line, listed}

@@ -15,9 +15,9 @@ use Rattle.sheet.specs.Calls.{Sheet}
 use Rattle.sheet.specs.Looks.{seen}
 use Rattle.sheet.specs.Refusals.{Answer, granted, refused, after}
 use Rattle.stories.proofs.Granting.{granted_is}
-use Rattle.topology.specs.Networks.{placed}
+use Rattle.networks.specs.Networks.{placed}
 use Rattle.topology.specs.Trees.{tree_of, loop_of, loop_row_of, cut_row_of}
-use Rattle.topology.specs.Words.{bits}
+use Rattle.networks.specs.Words.{bits}
 use Rattle.topology.proofs.Meaning.{granted_tree}
 use Rattle.topology.proofs.Theory.{is_tree}
 use Rattle.printed_key.specs.Blocks.{tree_line, row_lines, loop_lines, cut_lines, network_lines, or_refused, reading_line, reading_lines, readings_after, step_lines, remainder_line, remainder_lines, or_fault_by, residue_step_lines, residue_lines, one_step}

@@ -5,10 +5,10 @@ use Rattle.arithmetic.specs.Binary64.{binary64_ops}
 use Rattle.arithmetic.specs.Residues.{residue_ops}
 use Rattle.graphs.specs.Graph.{Set, Below}
 use Rattle.sheet.specs.Refusals.{granted}
-use Rattle.topology.specs.Networks.{placed}
-use Rattle.topology.specs.Words.{first}
-use Rattle.topology.proofs.Firsts.{first_member, first-none}
-use Rattle.topology.proofs.Networks.{placed_below}
+use Rattle.networks.specs.Networks.{placed}
+use Rattle.networks.specs.Words.{first}
+use Rattle.networks.proofs.Firsts.{first_member, first-none}
+use Rattle.networks.proofs.Networks.{placed_below}
 use Rattle.printed_key.specs.Blocks.{readings_after}
 use Rattle.printed_key.specs.Key.{circuit_tree, key_blocks, key_text}
 use Rattle.printed_key.specs.Telling.{read, read_in, plan_of, Alike, AlikeBy, Tells, OneKey}

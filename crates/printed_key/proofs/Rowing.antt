@@ -8,11 +8,11 @@ use Rattle.sheet.specs.declared.plan.Plan.{Plan}
 use Rattle.sheet.specs.declared.refusal.Shown.{Shown}
 use Rattle.sheet.specs.Refusals.{Answer, granted, refused, after}
 use Rattle.stories.proofs.Granting.{granted_is}
-use Rattle.topology.specs.Networks.{graph_of, placed}
+use Rattle.networks.specs.Networks.{graph_of, placed}
 use Rattle.topology.specs.Rows.{marks, backs, shown}
 use Rattle.topology.specs.Trees.{tree_set, tree_of, loop_of, cut_of, loop_row_of, cut_row_of}
-use Rattle.topology.specs.Words.{bits, word}
-use Rattle.topology.proofs.Bits.{those_less, bits-those, those_cong, those-bits}
+use Rattle.networks.specs.Words.{bits, word}
+use Rattle.networks.proofs.Bits.{those_less, bits-those, those_cong, those-bits}
 use Rattle.topology.proofs.Meaning.{granted_tree, proper_granted}
 use Rattle.printed_key.specs.Blocks.{member_words, sided, signed_words, row_lines}
 use Rattle.printed_key.specs.Text.{Word, Line, listed}

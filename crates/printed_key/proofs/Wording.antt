@@ -11,7 +11,7 @@ use Rattle.sheet.specs.Looks.{seen}
 use Rattle.sheet.specs.Refusals.{Answer, granted, refused, Told}
 use Rattle.std.specs.Prelude.{ℤ, slice_index_or}
 use Rattle.topology.specs.Trees.{loop_row_of, cut_row_of}
-use Rattle.topology.specs.Words.{bits}
+use Rattle.networks.specs.Words.{bits}
 use Rattle.printed_key.specs.Blocks.{member_words, sided, signed_words, tree_line, row_lines, network_lines, shown_words, refused_line, fault_line, or_refused, reading_line, reading_lines, readings_after, step_lines, remainder_line, remainder_lines, or_fault_by, residue_step_lines, residue_lines, one_step}
 use Rattle.printed_key.specs.Text.{Word, Line, listed}
 use Rattle.printed_key.proofs.Lines.{Bare, Words, LineBare, Lines, decimal_bare, signed_bare, lines_more, listed_words, listed_lines}

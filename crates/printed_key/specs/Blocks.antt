@@ -49,9 +49,9 @@ use Rattle.sheet.specs.Looks.{seen}
 use Rattle.sheet.specs.Meanings.{meant_sheet}
 use Rattle.sheet.specs.Refusals.{Answer, granted, refused, after, Told, means}
 use Rattle.stories.specs.Steps.{stepped}
-use Rattle.topology.specs.Networks.{placed}
+use Rattle.networks.specs.Networks.{placed}
 use Rattle.topology.specs.Trees.{loop_row_of, cut_row_of}
-use Rattle.topology.specs.Words.{bits}
+use Rattle.networks.specs.Words.{bits}
 use Rattle.printed_key.specs.declared.card_sheet.CardSheet.{CardSheet}
 use Rattle.printed_key.specs.declared.stop.Stop.{Stop}
 use Rattle.printed_key.specs.declared.stop.Stop.TheVariants.{Refused, Faulty}

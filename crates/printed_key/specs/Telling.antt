@@ -24,7 +24,7 @@ use Rattle.sheet.specs.declared.refusal.Refusal.{Refusal}
 use Rattle.sheet.specs.Calls.{Sheet}
 use Rattle.sheet.specs.Looks.{seen}
 use Rattle.sheet.specs.Refusals.{Answer, granted, refused, Told, means}
-use Rattle.topology.specs.Networks.{placed}
+use Rattle.networks.specs.Networks.{placed}
 use Rattle.topology.specs.Trees.{tree_of, loop_row_of, cut_row_of}
 use Rattle.printed_key.specs.Blocks.{refused_line, fault_line, one_step, readings_after}
 use Rattle.printed_key.specs.Key.{circuit_tree, key_text}

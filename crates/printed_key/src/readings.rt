@@ -11,7 +11,7 @@ use figures::reading;
 use sheet::Refusal;
 use std::alloc::AllocError;
 use stepping::step;
-use topology::is_placed;
+use networks::is_placed;
 
 // The reading of the branch k; none at an empty place.
 fn reading_at(sheet: &CardSheet<f64>, k: u32) -> Result<Option<i32>, Refusal>

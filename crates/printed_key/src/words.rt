@@ -5,7 +5,7 @@ ghost use Rattle.printed_key.specs.Text.{spaced, listed};
 
 use sheet::Shown;
 use std::fmt;
-use topology::has;
+use networks::has;
 
 // The members of a word, as ` 0 2`.
 #[derive(Clone, Copy)]

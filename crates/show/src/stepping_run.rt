@@ -5,7 +5,7 @@ use arithmetic::Arithmetic;
 use figures::{Trace, reading_of};
 use sheet::{Plan, Refusal, Row};
 use stepping::step;
-use topology::is_placed;
+use networks::is_placed;
 
 // The numbers of the placed branches, as the head of the columns.
 fn show_head(rt: &HostRuntime, plan: &Plan) -> anyhow::Result<()> {

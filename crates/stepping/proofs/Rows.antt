@@ -9,7 +9,7 @@ use Rattle.sheet.specs.declared.plan.Plan.{Plan}
 use Rattle.sheet.specs.declared.row.Row.{Row}
 use Rattle.sheet.specs.Meanings.{meant_row}
 use Rattle.graphs.specs.Graph.{Set}
-use Rattle.topology.specs.Networks.{placed}
+use Rattle.networks.specs.Networks.{placed}
 use Rattle.stories.specs.Networks.{any}
 use Rattle.stories.specs.Steps.{row_at, renewed}
 use Rattle.stepping.specs.Steps.{renewed_at, given, Others}

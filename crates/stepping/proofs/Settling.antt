@@ -10,7 +10,7 @@ use Rattle.sheet.specs.Calls.{Sheet, left}
 use Rattle.sheet.specs.Meanings.{meant_row, meant_sheet}
 use Rattle.sheet.specs.Refusals.{granted, refused, refuse, Told, pass, fail, verdict_of}
 use Rattle.graphs.specs.Graph.{Set, ◌∈◌}
-use Rattle.topology.specs.Networks.{placed}
+use Rattle.networks.specs.Networks.{placed}
 use Rattle.stories.specs.Assembly.{through}
 use Rattle.stories.specs.Networks.{kind_at, is_voltage, is_current, is_passive, any}
 use Rattle.stories.specs.Steps.{row_at, parts_of, solving, figure_of, voltage_of, current_of, renewed, renewed_rows, unsound, step_parts, step_result}

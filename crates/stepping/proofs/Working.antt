@@ -16,10 +16,11 @@ use Rattle.solver.specs.declared.Unsolved.{Unsolved}
 use Rattle.solver.specs.Answer.{answer, leaves, answered}
 use Rattle.solver.proofs.Law.{with_room}
 use Rattle.topology.specs.Matrices.{entry}
-use Rattle.topology.specs.Networks.{graph_of, placed}
+use Rattle.networks.specs.Networks.{graph_of, placed}
 use Rattle.topology.specs.Rows.{shown}
 use Rattle.topology.specs.Trees.{tree_set, tree_of}
-use Rattle.topology.specs.Words.{bits}
+use Rattle.networks.specs.Words.{bits}
+use Rattle.topology.proofs.ByCuts.{member_cut}
 use Rattle.topology.proofs.Meaning.{granted_tree}
 use Rattle.topology.proofs.Summing.{entry-shown}
 use Rattle.topology.proofs.Theory.{tree_below}
@@ -84,7 +85,7 @@ module _ {V M : Type 0} (o : Ops M) (mean : V → M) (p : Plan) (rows : List (Ro
     unknown = is.unknown ∙ ap (λ (S : Set). λ k. S k && not (is_voltage (kind_at p k))) tree_set_lem;
     link = is.link ∙ ap (λ (S : Set). λ k. placed p k && not (S k)) tree_set_lem;
     rows = λ t k m l.
-        ap (λ s. entry s k) (is.cuts t (tree_below p t m) (ap (λ (S : Set). S t) tree_set_lem ∙ m) ∙ ap (λ (S : Set). shown (cut_row (graph_of p) S 32 t)) tree_set_lem)
+        ap (λ s. entry s k) (member_cut p w f.cuts is.cuts t (tree_below p t m) (ap (λ (S : Set). S t) tree_set_lem ∙ m) ∙ ap (λ (S : Set). shown (cut_row (graph_of p) S 32 t)) tree_set_lem)
         ∙ entry-shown (cut_row (graph_of p) (tree_set p) 32 t) k l;
     fixed_in = every;
     unknown_in = λ t m. (and_parts (tree_set p t) (not (is_voltage (kind_at p t))) m).0;

@@ -13,7 +13,7 @@ use Rattle.sheet.specs.Calls.{Sheet, left}
 use Rattle.sheet.specs.Meanings.{meant_row, meant_sheet}
 use Rattle.sheet.specs.Refusals.{Told, Verdict, pass, fail, verdict_of}
 use Rattle.graphs.specs.Graph.{◌∈◌}
-use Rattle.topology.specs.Networks.{placed}
+use Rattle.networks.specs.Networks.{placed}
 use Rattle.stories.specs.Laws.{Live}
 use Rattle.stories.specs.Steps.{row_at, stepped}
 use Rattle.stories.specs.Stories.{StoryCall, step, run}

@@ -17,7 +17,7 @@ use Rattle.sheet.specs.declared.row.Row.{Row}
 use Rattle.sheet.specs.Calls.{Sheet, left}
 use Rattle.sheet.specs.Meanings.{meant_row, meant_sheet}
 use Rattle.sheet.specs.Refusals.{Answer, granted, refuse, Told, Verdict, fail, verdict_of}
-use Rattle.topology.specs.Networks.{placed}
+use Rattle.networks.specs.Networks.{placed}
 use Rattle.stories.specs.Assembly.{size}
 use Rattle.stories.specs.Companions.{conductance, feed}
 use Rattle.stories.specs.Networks.{kind_at, is_passive, is_current}

@@ -10,7 +10,7 @@ ghost use Rattle.stories.specs.Steps.{renewed};
 use arithmetic::Arithmetic;
 use linear::get;
 use sheet::{Plan, Row};
-use topology::is_placed;
+use networks::is_placed;
 
 // A row with a new current and voltage.
 fn renew<N: Copy>(rows: &mut [Row<N>; 32], k: usize, current: N, voltage: N)

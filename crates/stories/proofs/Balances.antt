@@ -9,8 +9,8 @@ use Rattle.graphs.proofs.Joint.{theory}
 use Rattle.linear.specs.Systems.{sum}
 use Rattle.linear.proofs.Ring.{ring}
 use Rattle.linear.proofs.Sums.{sum_only}
-use Rattle.topology.specs.Networks.{graph_of, placed}
-use Rattle.topology.proofs.Networks.{placed_below}
+use Rattle.networks.specs.Networks.{graph_of, placed}
+use Rattle.networks.proofs.Networks.{placed_below}
 use Rattle.topology.proofs.Theory.{ends_placed}
 use Rattle.stories.specs.Laws.{leaving}
 use Rattle.stories.proofs.Terms.{weight, sign, weight_in, weight_out, sign_plus, sign-none, additive, over-sum, signed-sum}

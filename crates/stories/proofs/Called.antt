@@ -5,8 +5,8 @@ use Rattle.sheet.specs.declared.refusal.Shown.{Shown}
 use Rattle.sheet.specs.Refusals.{Answer, shown_of}
 use Rattle.graphs.specs.Graph.{Set}
 use Rattle.topology.specs.Trees.{loose, late, voltage_loop, current_cut, tree_of, showing as showing_first}
-use Rattle.topology.specs.Words.{first}
-use Rattle.topology.proofs.Firsts.{first_member, first-none}
+use Rattle.networks.specs.Words.{first}
+use Rattle.networks.proofs.Firsts.{first_member, first-none}
 use Rattle.stories.specs.Called.{CallShows}
 use Rattle.stories.specs.Networks.{any}
 use Rattle.stories.specs.Steps.{showing}

@@ -18,9 +18,9 @@ use Rattle.graphs.proofs.Walks.{back}
 use Rattle.linear.specs.Systems.{sum}
 use Rattle.linear.proofs.Ring.{ring}
 use Rattle.linear.proofs.Sums.{sum_same, sum_zero}
-use Rattle.topology.specs.Networks.{kind_class, graph_of, placed, class_at}
+use Rattle.networks.specs.Networks.{kind_class, graph_of, placed, class_at}
 use Rattle.topology.specs.Trees.{tree_set, loose, late}
-use Rattle.topology.proofs.Networks.{placed_below}
+use Rattle.networks.proofs.Networks.{placed_below}
 use Rattle.topology.proofs.Theory.{best, is_tree}
 use Rattle.stories.specs.Networks.{kind_at, is_voltage, is_current}
 use Rattle.stories.specs.Laws.{signed, leaving, Law, stilled, Dead, AllZero}

@@ -11,7 +11,7 @@ use Rattle.graphs.specs.Cuts.{turned}
 use Rattle.linear.specs.Systems.{sum}
 use Rattle.linear.proofs.Ring.{ring, zero-add}
 use Rattle.linear.proofs.Sums.{sum_same, sum-add}
-use Rattle.topology.specs.Networks.{graph_of, placed}
+use Rattle.networks.specs.Networks.{graph_of, placed}
 use Rattle.stories.specs.Networks.{kind_at, is_voltage, is_passive}
 use Rattle.stories.specs.Companions.{conductance, feed}
 use Rattle.stories.specs.Assembly.{through, taken, entry_of, right_of}

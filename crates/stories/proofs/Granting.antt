@@ -10,7 +10,7 @@ use Rattle.graphs.specs.Graph.{◌∈◌}
 use Rattle.graphs.specs.Cuts.{incidence}
 use Rattle.linear.proofs.Sums.{sum_same}
 use Rattle.topology.specs.Meanings.{ProperTree}
-use Rattle.topology.specs.Networks.{graph_of, placed}
+use Rattle.networks.specs.Networks.{graph_of, placed}
 use Rattle.topology.specs.Trees.{tree_set}
 use Rattle.topology.proofs.Theory.{is_tree}
 use Rattle.stories.specs.Networks.{kind_at, is_passive}

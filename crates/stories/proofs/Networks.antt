@@ -12,7 +12,7 @@ use Rattle.graphs.specs.Labels.{label, own, components}
 use Rattle.graphs.proofs.Joint.{theory}
 use Rattle.graphs.proofs.Labels.{label-le}
 use Rattle.graphs.proofs.Sets.{count-without}
-use Rattle.topology.specs.Networks.{kind_class, class_found, graph_of, placed, class_at}
+use Rattle.networks.specs.Networks.{kind_class, class_found, graph_of, placed, class_at}
 use Rattle.topology.proofs.Theory.{ends_placed}
 use Rattle.stories.specs.Networks.{kind_found, kind_at, is_voltage, is_current, any}
 

@@ -6,8 +6,8 @@ use Rattle.sheet.specs.declared.plan.Plan.{Plan}
 use Rattle.sheet.specs.declared.row.Row.{Row}
 use Rattle.sheet.specs.Calls.{zero_row}
 use Rattle.graphs.specs.Graph.{◌∈◌}
-use Rattle.topology.specs.Networks.{placed}
-use Rattle.topology.proofs.Networks.{placed_below}
+use Rattle.networks.specs.Networks.{placed}
+use Rattle.networks.proofs.Networks.{placed_below}
 use Rattle.sheet.specs.Meanings.{meanings}
 use Rattle.stories.specs.Steps.{row_at, Result, renewed, renewed_rows}
 use Rattle.stories.proofs.Areas.{turns_long, turns_keep, turns_own}

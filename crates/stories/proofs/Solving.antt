@@ -9,7 +9,7 @@ use Rattle.linear.specs.Elimination.{entry}
 use Rattle.linear.specs.Systems.{sum, member, Solution, Singular, found}
 use Rattle.linear.proofs.Sums.{sum_same}
 use Rattle.linear.proofs.Theorem.{linear_systems}
-use Rattle.topology.specs.Networks.{graph_of, placed}
+use Rattle.networks.specs.Networks.{graph_of, placed}
 use Rattle.stories.specs.Networks.{kind_at, is_voltage, is_passive}
 use Rattle.stories.specs.Assembly.{entry_of, right_of, size, assembled}
 use Rattle.stories.specs.Steps.{parts_of, solving, figure_of, voltage_of, current_of}

@@ -14,9 +14,9 @@ use Rattle.linear.specs.Elimination.{entry}
 use Rattle.linear.specs.Systems.{sum, member, image, Solves, InKernel}
 use Rattle.linear.proofs.Ring.{ring}
 use Rattle.linear.proofs.Sums.{sum_same, sum_zero}
-use Rattle.topology.specs.Networks.{graph_of, placed}
+use Rattle.networks.specs.Networks.{graph_of, placed}
 use Rattle.topology.specs.Trees.{tree_set}
-use Rattle.topology.proofs.Networks.{placed_below}
+use Rattle.networks.proofs.Networks.{placed_below}
 use Rattle.topology.proofs.Theory.{is_tree}
 use Rattle.stories.specs.Networks.{kind_at, is_voltage, is_passive}
 use Rattle.stories.specs.Companions.{conductance, feed}

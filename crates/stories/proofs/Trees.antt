@@ -8,10 +8,10 @@ use Rattle.sheet.specs.Refusals.{Answer, granted, refused, Told}
 use Rattle.graphs.specs.Graph.{Set, ◌∈◌}
 use Rattle.graphs.proofs.Sets.{out}
 use Rattle.topology.specs.Meanings.{ProperTree}
-use Rattle.topology.specs.Networks.{placed}
+use Rattle.networks.specs.Networks.{placed}
 use Rattle.topology.specs.Trees.{tree_set, loose, late, tree_of}
-use Rattle.topology.specs.Words.{word}
-use Rattle.topology.proofs.Firsts.{first_member}
+use Rattle.networks.specs.Words.{word}
+use Rattle.networks.proofs.Firsts.{first_member}
 use Rattle.topology.proofs.Meaning.{Ways, ways, tree_answer}
 use Rattle.topology.proofs.Theory.{best_proper, is_tree, loose_is, late_is}
 use Rattle.stories.specs.Networks.{kind_at, is_voltage, is_current, any}

@@ -9,7 +9,7 @@ use Rattle.sheet.specs.declared.row.Row.{Row}
 use Rattle.graphs.specs.Graph.{Set, ◌∈◌, Tree}
 use Rattle.linear.specs.Systems.{sum}
 use Rattle.linear.proofs.Ring.{ring}
-use Rattle.topology.specs.Networks.{graph_of, placed}
+use Rattle.networks.specs.Networks.{graph_of, placed}
 use Rattle.stories.specs.Networks.{kind_at, is_voltage, is_current, is_passive}
 use Rattle.stories.specs.Companions.{conductance, feed}
 use Rattle.stories.specs.Assembly.{entry_of, right_of}

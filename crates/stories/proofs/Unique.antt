@@ -9,7 +9,7 @@ use Rattle.sheet.specs.declared.row.Row.{Row}
 use Rattle.graphs.specs.Graph.{Set, ◌∈◌, count, Tree}
 use Rattle.linear.proofs.Ring.{ring, zero-add}
 use Rattle.linear.proofs.Sums.{sum_same}
-use Rattle.topology.specs.Networks.{graph_of, placed}
+use Rattle.networks.specs.Networks.{graph_of, placed}
 use Rattle.stories.specs.Networks.{kind_at, is_voltage}
 use Rattle.stories.specs.Companions.{conductance, feed}
 use Rattle.stories.specs.Steps.{parts_of, voltage_of, current_of}

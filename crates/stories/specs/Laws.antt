@@ -16,7 +16,7 @@ use Rattle.sheet.specs.declared.row.Row.{Row}
 use Rattle.graphs.specs.Graph.{◌∈◌, Sign, plus, none, minus}
 use Rattle.graphs.specs.Cuts.{incidence}
 use Rattle.linear.specs.Systems.{sum}
-use Rattle.topology.specs.Networks.{graph_of, placed}
+use Rattle.networks.specs.Networks.{graph_of, placed}
 use Rattle.stories.specs.Networks.{kind_at}
 
 abbrev pub signed : {M : Type 0} → Ops M → Sign → M → M

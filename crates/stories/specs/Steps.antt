@@ -32,9 +32,9 @@ use Rattle.graphs.specs.Graph.{Set, count}
 use Rattle.graphs.specs.Cuts.{turned, cut_row}
 use Rattle.linear.specs.Elimination.{entry, solved}
 use Rattle.linear.specs.Loops.{Tried}
-use Rattle.topology.specs.Networks.{graph_of, placed}
+use Rattle.networks.specs.Networks.{graph_of, placed}
 use Rattle.topology.specs.Trees.{tree_set, loose, late, tree_of}
-use Rattle.topology.specs.Words.{word}
+use Rattle.networks.specs.Words.{word}
 use Rattle.stories.specs.Networks.{kind_at, is_voltage, is_current, is_passive, any}
 use Rattle.stories.specs.Companions.{conductance, feed}
 use Rattle.stories.specs.Assembly.{through, taken, Parts, size, assembled}

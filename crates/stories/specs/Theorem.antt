@@ -29,9 +29,9 @@ use Rattle.graphs.specs.Graph.{Set, ◌∈◌, count}
 use Rattle.graphs.specs.Greedy.{of_class}
 use Rattle.linear.specs.Elimination.{entry, solved}
 use Rattle.topology.specs.Meanings.{ProperTree}
-use Rattle.topology.specs.Networks.{placed, class_at}
+use Rattle.networks.specs.Networks.{placed, class_at}
 use Rattle.topology.specs.Trees.{tree_set, loose, late, tree_of}
-use Rattle.topology.specs.Words.{bits}
+use Rattle.networks.specs.Words.{bits}
 use Rattle.stories.specs.Networks.{kind_at, any}
 use Rattle.stories.specs.Assembly.{Parts, size, written}
 use Rattle.stories.specs.Steps.{row_at, solving, figure_of, step_parts, Showing, TreeCall, tree_showing, stepped_by}

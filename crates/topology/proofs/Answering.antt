@@ -5,10 +5,10 @@ use Rattle.sheet.specs.declared.refusal.Shown.{Shown}
 use Rattle.sheet.specs.Refusals.{Answer, granted, refused, shown_of}
 use Rattle.graphs.specs.Cuts.{loop_row}
 use Rattle.graphs.specs.Graph.{both}
-use Rattle.topology.specs.Networks.{graph_of}
+use Rattle.networks.specs.Networks.{graph_of}
 use Rattle.topology.specs.Rows.{shown, cut_from}
 use Rattle.topology.specs.Trees.{tree_set, voltages, no_currents, loose, late, voltage_loop, current_cut, showing, tree_of}
-use Rattle.topology.specs.Words.{bits, word, except, first}
+use Rattle.networks.specs.Words.{bits, word, except, first}
 
 abbrev after_loops : Plan → Answer ℕ
 after_loops p = showing 13 (current_cut p) (first (late p)) (granted (word (tree_set p)))

@@ -7,8 +7,8 @@ use Rattle.graphs.specs.Cuts.{diff}
 use Rattle.graphs.specs.Graph.{Set, with}
 use Rattle.topology.specs.Rows.{marks, backs, shown}
 use Rattle.topology.specs.Stars.{Star}
-use Rattle.topology.specs.Words.{bits, except, under}
-use Rattle.topology.proofs.Bits.{bits_zero, under_in, under_out, under_none}
+use Rattle.networks.specs.Words.{bits, except, under}
+use Rattle.networks.proofs.Bits.{bits_zero, under_in, under_out, under_none}
 use Rattle.topology.proofs.Gathering.{gathered-all}
 
 pub star_none : (e : ℕ → ℕ) → Star e 0 (replicate 16 0)

@@ -9,9 +9,9 @@ use Rattle.graphs.proofs.Greedy.{listed-append}
 use Rattle.graphs.proofs.Order.{members_in, members-from, order_in, order_from}
 use Rattle.graphs.proofs.Sets.{out, same}
 use Rattle.topology.specs.Meanings.{earlier}
-use Rattle.topology.specs.Networks.{graph_of, placed, class_at}
+use Rattle.networks.specs.Networks.{graph_of, placed, class_at}
 use Rattle.topology.specs.Trees.{order, tree_set}
-use Rattle.topology.proofs.Networks.{placed_below}
+use Rattle.networks.proofs.Networks.{placed_below}
 use Rattle.topology.proofs.Theory.{best, class_low}
 
 -- the members of a set split at one

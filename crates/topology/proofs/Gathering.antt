@@ -4,8 +4,8 @@ use Rattle.sheet.specs.declared.refusal.Shown.{Shown}
 use Rattle.graphs.specs.Cuts.{cut_row}
 use Rattle.graphs.specs.Graph.{Graph, Set, with, without, Sign}
 use Rattle.topology.specs.Rows.{marks, backs, shown, cut_from, Gathered}
-use Rattle.topology.specs.Words.{bits}
-use Rattle.topology.proofs.Bits.{gathers, under_none, is_word}
+use Rattle.networks.specs.Words.{bits}
+use Rattle.networks.proofs.Bits.{gathers, under_none, is_word}
 
 -- the cut of the tail's side is the cut row
 pub cut-from-side : (g : Graph) (S : Set) (t : ℕ) → cut_from g (without S t) (g.tail t) ≡ shown (cut_row g S 32 t)

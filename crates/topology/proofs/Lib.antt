@@ -1,7 +1,3 @@
-pub mod Bits
-pub mod Firsts
-pub mod Networks
-pub mod Growing
 pub mod Making
 pub mod Sweeping
 pub mod Gathering

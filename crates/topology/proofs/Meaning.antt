@@ -10,13 +10,13 @@ use Rattle.graphs.specs.Greedy.{of_class}
 use Rattle.graphs.specs.Groups.{Group, sum, sum_over, times}
 use Rattle.topology.specs.Matrices.{entry, Matrices, integers}
 use Rattle.topology.specs.Meanings.{ProperTree, Shows, earlier, TreeAnswer, LoopRow, LoopAnswer, CutRow, CutAnswer, IncidenceAnswer}
-use Rattle.topology.specs.Networks.{tail_of, head_of, graph_of, placed, class_at}
+use Rattle.networks.specs.Networks.{tail_of, head_of, graph_of, placed, class_at}
 use Rattle.topology.specs.Rows.{shown}
 use Rattle.topology.specs.Trees.{tree_set, loose, late, voltage_loop, current_cut, tree_of, loop_of, cut_of, loop_row_of, cut_row_of}
-use Rattle.topology.specs.Words.{bits, word, first}
+use Rattle.networks.specs.Words.{bits, word, first}
 use Rattle.topology.proofs.Earlier.{kept_in_turn}
 use Rattle.topology.proofs.Answering.{meets_loop, meets_cut, meets_none}
-use Rattle.topology.proofs.Bits.{bits-word}
+use Rattle.networks.proofs.Bits.{bits-word}
 use Rattle.topology.proofs.Showing.{voltage_loop_lem, current_cut_lem, loop_row_is, cut_row_is}
 use Rattle.topology.proofs.Summing.{loop_balances, cut_sides, tree_columns, loop_cut_zero}
 use Rattle.topology.proofs.Theory.{best_proper, is_tree, tree_below, none_proper, proper_none}

@@ -16,14 +16,14 @@ use Rattle.graphs.proofs.Sets.{out}
 use Rattle.graphs.proofs.Trails.{loop_along, free_independent, free_less, wider}
 use Rattle.topology.specs.Matrices.{integers}
 use Rattle.topology.specs.Meanings.{currents, VoltageLoop, CurrentCut, LoopRow, CutRow}
-use Rattle.topology.specs.Networks.{tail_of, head_of, graph_of, placed, class_at}
+use Rattle.networks.specs.Networks.{tail_of, head_of, graph_of, placed, class_at}
 use Rattle.topology.specs.Rows.{marks, shown, cut_from}
 use Rattle.topology.specs.Trees.{tree_set, voltages, loose, late, voltage_loop, current_cut}
-use Rattle.topology.specs.Words.{bits, first}
-use Rattle.topology.proofs.Bits.{bits-those}
-use Rattle.topology.proofs.Networks.{placed_below}
+use Rattle.networks.specs.Words.{bits, first}
+use Rattle.networks.proofs.Bits.{bits-those}
+use Rattle.networks.proofs.Networks.{placed_below}
 use Rattle.topology.proofs.Summing.{loop_balances, cut_sides}
-use Rattle.topology.proofs.Firsts.{first_member, first_lowest}
+use Rattle.networks.proofs.Firsts.{first_member, first_lowest}
 use Rattle.topology.proofs.Theory.{class_low, best, is_tree, tree_below, tree_rows, loose_is, late_is, late_in}
 
 -- the members of the row of a set of nodes are its cut

@@ -11,12 +11,12 @@ use Rattle.graphs.proofs.Classes.{tree_joins}
 use Rattle.graphs.proofs.Joint.{theory}
 use Rattle.graphs.proofs.Sums.{over_cong}
 use Rattle.topology.specs.Matrices.{entry}
-use Rattle.topology.specs.Networks.{graph_of, placed}
+use Rattle.networks.specs.Networks.{graph_of, placed}
 use Rattle.topology.specs.Rows.{marks, backs, shown}
 use Rattle.topology.specs.Trees.{tree_set}
-use Rattle.topology.specs.Words.{bits, word}
-use Rattle.topology.proofs.Bits.{bits-those}
-use Rattle.topology.proofs.Networks.{placed_below, tail_node, head_node}
+use Rattle.networks.specs.Words.{bits, word}
+use Rattle.networks.proofs.Bits.{bits-those}
+use Rattle.networks.proofs.Networks.{placed_below, tail_node, head_node}
 use Rattle.topology.proofs.Theory.{is_tree, tree_below}
 
 -- the sign of a place in a shown row

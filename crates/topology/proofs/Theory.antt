@@ -12,11 +12,11 @@ use Rattle.graphs.proofs.Joint.{theory}
 use Rattle.graphs.proofs.Sets.{out}
 use Rattle.graphs.proofs.Classes.{up_to_less, up_to_class, up_to_in}
 use Rattle.topology.specs.Meanings.{ProperTree}
-use Rattle.topology.specs.Networks.{kind_class, class_found, graph_of, placed, class_at}
+use Rattle.networks.specs.Networks.{kind_class, class_found, graph_of, placed, class_at}
 use Rattle.topology.specs.Trees.{order, tree_set, voltages, no_currents, loose, late}
-use Rattle.topology.specs.Words.{first}
-use Rattle.topology.proofs.Firsts.{first_member, first-none}
-use Rattle.topology.proofs.Networks.{placed_below, tail_node, head_node}
+use Rattle.networks.specs.Words.{first}
+use Rattle.networks.proofs.Firsts.{first_member, first-none}
+use Rattle.networks.proofs.Networks.{placed_below, tail_node, head_node}
 
 pub ends_placed : (p : Plan) → Ends 16 (graph_of p) (placed p)
 ends_placed p k m = (tail_node p k, head_node p k)

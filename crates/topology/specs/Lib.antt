@@ -1,5 +1,3 @@
-pub mod Words
-pub mod Networks
 pub mod Rows
 pub mod Trees
 pub mod Matrices

@@ -12,10 +12,10 @@ use Rattle.sheet.specs.declared.refusal.Shown.{Shown}
 use Rattle.graphs.specs.Graph.{◌∈◌, Sign, plus, none, minus}
 use Rattle.graphs.specs.Cuts.{side, cut_row, incidence}
 use Rattle.graphs.specs.Groups.{Group, sum, sum_over, times}
-use Rattle.topology.specs.Networks.{graph_of, placed}
+use Rattle.networks.specs.Networks.{graph_of, placed}
 use Rattle.topology.specs.Rows.{shown}
 use Rattle.topology.specs.Trees.{loop_of, cut_of}
-use Rattle.topology.specs.Words.{bits}
+use Rattle.networks.specs.Words.{bits}
 
 abbrev pub entry : Shown → ℕ → Sign
 entry s k = cond (bits s.against k) minus (cond (bits s.members k) plus none)

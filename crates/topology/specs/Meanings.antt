@@ -26,10 +26,10 @@ use Rattle.graphs.specs.Cuts.{cut, leaves, cut_row, incidence}
 use Rattle.graphs.specs.Greedy.{of_class, Proper}
 use Rattle.graphs.specs.Groups.{sum_over, times}
 use Rattle.topology.specs.Matrices.{entry, integers, value, dot}
-use Rattle.topology.specs.Networks.{graph_of, placed, class_at}
+use Rattle.networks.specs.Networks.{graph_of, placed, class_at}
 use Rattle.topology.specs.Rows.{shown}
 use Rattle.topology.specs.Trees.{tree_set, tree_of, cut_row_of, voltages, no_currents}
-use Rattle.topology.specs.Words.{bits}
+use Rattle.networks.specs.Words.{bits}
 
 abbrev pub currents : Plan → Set
 currents p = of_class (class_at p) 4 (placed p)

@@ -15,7 +15,7 @@ use Rattle.graphs.specs.Labels.{joins}
 use Rattle.sheet.specs.declared.refusal.Shown.{Shown}
 use Rattle.topology.specs.declared.sign.Sign.{Sign}
 use Rattle.topology.specs.declared.sign.Sign.TheVariants.{Plus, Zero, Minus}
-use Rattle.topology.specs.Words.{bits, word, under}
+use Rattle.networks.specs.Words.{bits, word, under}
 
 abbrev pub sign_of : Sign → graphs.Sign
 sign_of Plus = plus

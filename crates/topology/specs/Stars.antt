@@ -4,7 +4,7 @@
 -- StarsOf         two lists that have at each node the branches that leave it and those that enter it
 use Rattle.std.specs.Prelude.{◌≡◌, ℕ, ◌<◌, List, ◌==◌, slice_index_or}
 use Rattle.graphs.specs.Graph.{Graph}
-use Rattle.topology.specs.Words.{bits, under}
+use Rattle.networks.specs.Words.{bits, under}
 
 abbrev pub Star : (ℕ → ℕ) → ℕ → List ℕ → Type 0
 Star e n ws = (x : ℕ) → x < 16 → bits (slice_index_or ws x 0) ≡ under (λ k. e k == x) n

@@ -11,18 +11,19 @@
 -- showing             refused by that number with what is shown of k, if there is such a k; else what follows
 -- tree_of p           12 with the first loose source's loop; 13 with the first late source's cut; else the tree
 -- loop_of, cut_of     the loop row of a link, the cut row of a tree branch, none for another number
--- CutsOf p w cuts     a list that has the cut row of each member of the word w at its place
+-- cut_at_place        the cut row of a member of the word w, and no row for another number
+-- CutsOf p w cuts     a list that has this at each of the 32 places
 -- loop_row_of         12 and 13 as for the tree, then the loop row
 -- cut_row_of          12 and 13 as for the tree, then the cut row
 use Rattle.std.specs.Prelude.{◌≡◌, ℕ, ◌<◌, cond, not, ◌&&◌, List, Some, None, Option, slice_index_or}
 use Rattle.sheet.specs.declared.plan.Plan.{Plan}
 use Rattle.sheet.specs.declared.refusal.Shown.{Shown}
 use Rattle.sheet.specs.Refusals.{Answer, granted, refused, after, shown_of}
-use Rattle.graphs.specs.Graph.{Set, ◌∈◌, both}
+use Rattle.graphs.specs.Graph.{Set, both}
 use Rattle.graphs.specs.Cuts.{cut_row, loop_row}
 use Rattle.graphs.specs.Greedy.{greedy, up_to, in_order}
-use Rattle.topology.specs.Words.{bits, word, except, first}
-use Rattle.topology.specs.Networks.{graph_of, placed, class_at}
+use Rattle.networks.specs.Words.{bits, word, except, first}
+use Rattle.networks.specs.Networks.{graph_of, placed, class_at}
 use Rattle.topology.specs.Rows.{nothing, shown, cut_from}
 
 abbrev pub order : Plan → List ℕ
@@ -65,8 +66,11 @@ loop_of p tree k = cond (placed p k && not (bits tree k)) (Some (shown (loop_row
 abbrev pub cut_of : Plan → ℕ → ℕ → Option Shown
 cut_of p tree t = cond (bits tree t) (Some (shown (cut_row (graph_of p) (bits tree) 32 t))) None
 
+abbrev pub cut_at_place : Plan → ℕ → ℕ → Shown
+cut_at_place p w t = cond (bits w t) (shown (cut_row (graph_of p) (bits w) 32 t)) nothing
+
 abbrev pub CutsOf : Plan → ℕ → List Shown → Type 0
-CutsOf p w cuts = (t : ℕ) → t < 32 → t ∈ bits w → slice_index_or cuts t nothing ≡ shown (cut_row (graph_of p) (bits w) 32 t)
+CutsOf p w cuts = (t : ℕ) → t < 32 → slice_index_or cuts t nothing ≡ cut_at_place p w t
 
 unfoldable pub loop_row_of : Plan → ℕ → Answer (Option Shown)
 loop_row_of p k = after (tree_of p) (λ tree. granted (loop_of p tree k))

@@ -5,15 +5,14 @@ ghost use Rattle.graphs.specs.Groups.{Group};
 ghost use Rattle.sheet.specs.Refusals.{told, granted};
 ghost use Rattle.topology.specs.Matrices.{Matrices};
 ghost use Rattle.topology.specs.Meanings.{TreeAnswer, LoopAnswer, CutAnswer, IncidenceAnswer};
-ghost use Rattle.topology.specs.Networks.{graph_of};
+ghost use Rattle.networks.specs.Networks.{graph_of};
 ghost use Rattle.topology.specs.Rows.{sign_of};
 ghost use Rattle.topology.specs.Trees.{tree_of, loop_row_of, cut_row_of};
 
 use crate::keeping::kept_branches;
-use crate::network::{head, no_current_sources, tail, voltage_sources};
 use crate::rows::{TreeRows, cut, difference};
 use crate::sign::Sign;
-use crate::words::{common, less, lowest};
+use networks::{common, head, less, lowest, no_current_sources, tail, voltage_sources};
 use sheet::{Plan, Refusal, Shown};
 
 // The tree. Refused by 12 with a loop of voltage sources, and by 13 with a cut of current sources.

@@ -2,13 +2,11 @@
 ghost use Rattle.std.specs.Prelude.{◌≡◌, ◌<◌};
 ghost use Rattle.graphs.specs.Graph.{empty, with};
 ghost use Rattle.graphs.specs.Greedy.{keep, kept, of_class, members};
-ghost use Rattle.topology.specs.Networks.{kind_class, graph_of, placed, class_at, Labelled};
+ghost use Rattle.networks.specs.Networks.{kind_class, graph_of, placed, class_at, Labelled};
 ghost use Rattle.topology.specs.Trees.{tree_set};
-ghost use Rattle.topology.specs.Words.{bits};
+ghost use Rattle.networks.specs.Words.{bits};
 
-use crate::labels::Labels;
-use crate::network::{ORDER, head, is_of_kind, tail};
-use crate::words::insert_if;
+use networks::{Labels, ORDER, head, insert_if, is_of_kind, tail};
 use sheet::{Kind, Plan};
 
 // Branches kept of a plan, with the labels of the nodes that they join: whether another closes a loop is asked of these.

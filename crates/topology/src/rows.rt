@@ -1,21 +1,19 @@
 // Rows of signs: cuts of nodes, and loops along a branch.
 ghost use Rattle.std.specs.Prelude.{◌≡◌, ℕ, ◌<◌, slice_index_or};
-ghost use Rattle.graphs.specs.Cuts.{diff, cut_row, loop_row};
-ghost use Rattle.graphs.specs.Graph.{Set, ◌∈◌};
+ghost use Rattle.graphs.specs.Cuts.{diff, loop_row};
+ghost use Rattle.graphs.specs.Graph.{Set};
 ghost use Rattle.graphs.specs.Graph as graphs;
 ghost use Rattle.topology.specs.Matrices.{entry};
-ghost use Rattle.topology.specs.Networks.{graph_of};
+ghost use Rattle.networks.specs.Networks.{graph_of};
 ghost use Rattle.topology.specs.Stars.{StarsOf};
 ghost use Rattle.topology.specs.declared.sign.Sign.{Sign};
 ghost use Rattle.topology.specs.Rows.{sign_of, nothing, shown, cut_from};
-ghost use Rattle.topology.specs.Trees.{loop_of, cut_of, CutsOf};
-ghost use Rattle.topology.specs.Words.{bits, under};
+ghost use Rattle.topology.specs.Trees.{loop_of, cut_of, cut_at_place, CutsOf};
+ghost use Rattle.networks.specs.Words.{bits, under};
 
-use crate::labels::Labels;
-use crate::network::{Node, is_placed, tail};
 use crate::sign::Sign;
 use crate::stars::{Stars, reach};
-use crate::words::{either, has, insert_if, less, remove};
+use networks::{Labels, Node, either, has, insert_if, is_placed, less, remove, tail};
 use sheet::{Plan, Shown};
 use std::array::from_fn;
 
@@ -90,7 +88,7 @@ pub(crate) fn cut(plan: &Plan, word: u32, node: Node) -> Shown
 
 // The cut row of a member t of the word: the cut of the tail's side when t is taken out. No member for another number.
 fn cut_if(plan: &Plan, stars: &Stars, word: u32, t: u32) -> Shown
-    ensures { StarsOf (graph_of plan.now) stars.now.leaving stars.now.entering → t ∈ bits word → result ≡ shown (cut_row (graph_of plan.now) (bits word) 32 t) }
+    ensures { StarsOf (graph_of plan.now) stars.now.leaving stars.now.entering → result ≡ cut_at_place plan.now word t }
 {
     if has(word, t) {
         cut_at(plan, stars, remove(word, t), tail(plan, t))
@@ -128,7 +126,7 @@ impl<'a> TreeRows<'a> {
         }
     }
 
-    // What stands at a place: the cut row of a branch of the tree.
+    // What stands at a place: the cut row of a branch of the tree, no row for another number.
     pub fn cut(&self, t: u32) -> Shown
         ensures { result ≡ slice_index_or self.now.cuts t nothing }
     {

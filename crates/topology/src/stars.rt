@@ -1,13 +1,11 @@
 // The branches at each node, as words: a row across a set of nodes is put together from these, and not branch by branch.
 ghost use Rattle.std.specs.Prelude.{◌≡◌, ℕ, ◌<◌};
-ghost use Rattle.topology.specs.Networks.{graph_of, alike};
+ghost use Rattle.networks.specs.Networks.{graph_of, alike};
 ghost use Rattle.topology.specs.Stars.{Star, StarsOf};
-ghost use Rattle.topology.specs.Words.{bits, under};
-ghost use Rattle.topology.specs.declared.network.Node.{Node};
+ghost use Rattle.networks.specs.Words.{bits, under};
+ghost use Rattle.networks.specs.declared.network.Node.{Node};
 
-use crate::labels::Labels;
-use crate::network::{Node, head, tail};
-use crate::words::{either, insert_if};
+use networks::{Labels, Node, either, head, insert_if, tail};
 use sheet::Plan;
 
 // The branches that leave each node, and those that enter it. One without a branch leaves and enters node 0.

@@ -1,8 +1,8 @@
 use Rattle.std.proofs.Common.{sym, ap, ◌∙◌, ap₂}
 use Rattle.std.proofs.lemmas.Bool.{and_parts}
 use Rattle.stories.specs.Assembly.{taken}
-use Rattle.topology.specs.Words.{bits}
-use Rattle.topology.proofs.Firsts.{first_member}
+use Rattle.networks.specs.Words.{bits}
+use Rattle.networks.proofs.Firsts.{first_member}
 use Rattle.assembly.specs.Frames.{gathered}
 use Rattle.assembly.proofs.Members.{gathered_lowest, gathered_none}
 use Rattle.assembly.proofs.gathering.gather.Goals as goal

@@ -1,7 +1,7 @@
 use Rattle.std.proofs.Common.{◌≡◌, ℕ, ◌<◌}
 use Rattle.graphs.specs.Graph.{Set, ◌∈◌}
 use Rattle.topology.specs.Rows.{sign_of}
-use Rattle.topology.specs.Words.{bits}
+use Rattle.networks.specs.Words.{bits}
 use Rattle.assembly.specs.Frames.{gathered}
 use Rattle.assembly.proofs.gathering.gather.Given as goal
 

@@ -3,7 +3,7 @@ use Rattle.std.proofs.lemmas.Bool.{and_parts}
 use Rattle.graphs.specs.Graph.{◌∈◌}
 use Rattle.topology.specs.Matrices.{entry}
 use Rattle.topology.specs.Rows.{sign_of}
-use Rattle.topology.specs.Words.{bits}
+use Rattle.networks.specs.Words.{bits}
 use Rattle.assembly.proofs.Members.{gathered_signed, left_out, no_sign}
 use Rattle.assembly.proofs.gathering.gather_row.Goals as goal
 

@@ -1,5 +1,5 @@
 use Rattle.std.proofs.Common.{◌≡◌, ◌∙◌, arith}
-use Rattle.topology.specs.Words.{bits}
+use Rattle.networks.specs.Words.{bits}
 use Rattle.assembly.specs.Frames.{system_of}
 use Rattle.assembly.proofs.Turns.{one_more, all_made}
 use Rattle.assembly.proofs.Reading.{counted, rows_kept}

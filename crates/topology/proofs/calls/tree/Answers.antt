@@ -1,13 +1,13 @@
 use Rattle.std.proofs.Common.{sym, ◌∙◌}
 use Rattle.graphs.specs.Cuts.{loop_row}
 use Rattle.topology.specs.Meanings.{TreeAnswer}
-use Rattle.topology.specs.Networks.{graph_of}
+use Rattle.networks.specs.Networks.{graph_of}
 use Rattle.topology.specs.Rows.{shown}
-use Rattle.topology.specs.Words.{bits}
+use Rattle.networks.specs.Words.{bits}
 use Rattle.topology.specs.Trees.{tree_set}
 use Rattle.topology.proofs.Answering.{with_meaning, meets_loop, meets_cut, meets_none, loose-found, late-found, loop_shown, cut-shown}
-use Rattle.topology.proofs.Bits.{set_word}
-use Rattle.topology.proofs.Firsts.{first_member}
+use Rattle.networks.proofs.Bits.{set_word}
+use Rattle.networks.proofs.Firsts.{first_member}
 use Rattle.topology.proofs.Meaning.{tree_answer}
 use Rattle.topology.proofs.calls.tree.Goals as goal
 

@@ -2,10 +2,10 @@ use Rattle.std.proofs.Common.{◌≡◌, get_or, ap, ◌∙◌, arith}
 use Rattle.sheet.specs.declared.kind.Kind.TheVariants.{Resistor}
 use Rattle.sheet.specs.declared.plan.Plan.{Plan}
 use Rattle.graphs.specs.Greedy.{kept, greedy, in_order, members, of_class}
-use Rattle.topology.specs.Networks.{kind_class, graph_of, placed, class_at}
+use Rattle.networks.specs.Networks.{kind_class, graph_of, placed, class_at}
 use Rattle.topology.specs.Trees.{tree_set}
-use Rattle.topology.specs.Words.{bits}
-use Rattle.topology.proofs.Networks.{kinds, class_order}
+use Rattle.networks.specs.Words.{bits}
+use Rattle.networks.proofs.Networks.{kinds, class_order}
 use Rattle.topology.proofs.Sweeping.{class_more}
 use Rattle.topology.proofs.keeping.kept_branches.Goals as goal
 

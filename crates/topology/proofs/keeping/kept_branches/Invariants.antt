@@ -1,7 +1,7 @@
 use Rattle.std.proofs.Common.{◌≡◌}
 use Rattle.graphs.specs.Greedy.{greedy, in_order}
-use Rattle.topology.specs.Networks.{graph_of, placed, class_at}
-use Rattle.topology.specs.Words.{bits}
+use Rattle.networks.specs.Networks.{graph_of, placed, class_at}
+use Rattle.networks.specs.Words.{bits}
 use Rattle.topology.proofs.keeping.kept_branches.Given as goal
 
 abbrev pub invariant-loop-kind : goal.invariant-loop-kind

@@ -1,6 +1,6 @@
 use Rattle.std.proofs.Common.{◌||◌, ap, ◌∙◌, arith}
 use Rattle.graphs.specs.Graph.{Set}
-use Rattle.topology.specs.Words.{bits}
+use Rattle.networks.specs.Words.{bits}
 use Rattle.topology.proofs.Crossing.{row_across}
 use Rattle.topology.proofs.rows.across.Goals as goal
 

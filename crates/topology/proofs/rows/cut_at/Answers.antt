@@ -1,9 +1,9 @@
 use Rattle.std.proofs.Common.{ap, ◌∙◌}
 use mathlib.Core.Path.{fun_ext}
-use Rattle.topology.specs.Networks.{graph_of, alike}
+use Rattle.networks.specs.Networks.{graph_of, alike}
 use Rattle.topology.specs.Rows.{shown, cut_from}
-use Rattle.topology.specs.Words.{bits}
-use Rattle.topology.proofs.Networks.{leaves_labelled, tail_node, head_node}
+use Rattle.networks.specs.Words.{bits}
+use Rattle.networks.proofs.Networks.{leaves_labelled, tail_node, head_node}
 use Rattle.topology.proofs.rows.cut_at.Goals as goal
 
 pub returns : goal.returns

@@ -27,8 +27,8 @@ loop-k-preserved g c = λ f says.
     let x = c.sign-sign.result in
     gathered_more f c.loop-k.k c.insert_if.result c.insert_if-in-loop-k.result c.loop-k.row (sign_of x)
     (c.loop-k.invariant f says) (says _ _ (omega arith) c.sign-sign.ensures) (omega arith) (omega arith)
-    (rw (← is_marked x) (rw (← c.ne.ensures) c.insert_if.ensures))
-    (rw (← is_minus x) (rw (← c.eq.ensures) c.insert_if-in-loop-k.ensures))
+    (rw (← is_marked x) (rw (← c.ne.ensures) (c.insert_if.ensures.within (omega arith))))
+    (rw (← is_minus x) (rw (← c.eq.ensures) (c.insert_if-in-loop-k.ensures.within (omega arith))))
 
 pub returns : goal.returns
 returns g c = λ f says.

@@ -1,5 +1,5 @@
-use Rattle.topology.specs.Networks.{alike}
-use Rattle.topology.specs.Words.{under}
+use Rattle.networks.specs.Networks.{alike}
+use Rattle.networks.specs.Words.{under}
 use Rattle.topology.proofs.Crossing.{reach_none}
 use Rattle.topology.proofs.stars.reach.Goals as goal
 

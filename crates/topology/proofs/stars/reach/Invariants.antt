@@ -1,7 +1,7 @@
 use Rattle.std.proofs.Common.{◌≡◌, ℕ, ◌<◌, ◌&&◌, ltb}
-use Rattle.topology.specs.Networks.{alike}
+use Rattle.networks.specs.Networks.{alike}
 use Rattle.topology.specs.Stars.{Star}
-use Rattle.topology.specs.Words.{bits, under}
+use Rattle.networks.specs.Words.{bits, under}
 use Rattle.topology.proofs.stars.reach.Given as goal
 
 abbrev pub invariant-loop-x : goal.invariant-loop-x

@@ -11,7 +11,7 @@ pub loop-k-preserved : goal.loop-k-preserved
 loop-k-preserved g c = (
   length-set c.loop-k.words c.end-node.result.number c.insert_if.result ∙ c.loop-k.invariant.0,
   λ e says.
-      star_more e c.loop-k.k c.end-node.result.number c.insert_if.result c.loop-k.words c.loop-k.invariant.0 (c.loop-k.invariant.1 e says) (says _ _ (omega arith) c.end-node.ensures) c.end-node.result.within c.insert_if.ensures,
+      star_more e c.loop-k.k c.end-node.result.number c.insert_if.result c.loop-k.words c.loop-k.invariant.0 (c.loop-k.invariant.1 e says) (says _ _ (omega arith) c.end-node.ensures) c.end-node.result.within (c.insert_if.ensures.within (omega arith)),
 )
 
 pub returns : goal.returns

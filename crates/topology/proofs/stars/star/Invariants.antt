@@ -1,5 +1,5 @@
 use Rattle.std.proofs.Common.{◌≡◌, ℕ, ◌<◌, length}
-use Rattle.topology.specs.declared.network.Node.{Node}
+use Rattle.networks.specs.declared.network.Node.{Node}
 use Rattle.topology.specs.Stars.{Star}
 use Rattle.topology.proofs.stars.star.Given as goal
 

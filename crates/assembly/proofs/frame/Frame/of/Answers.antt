@@ -3,7 +3,7 @@ use mathlib.Core.Path.{fun_ext}
 use Rattle.graphs.specs.Graph.{Set}
 use Rattle.sheet.specs.declared.plan.Plan.{Plan}
 use Rattle.topology.specs.Trees.{CutsOf}
-use Rattle.topology.specs.Words.{bits, except}
+use Rattle.networks.specs.Words.{bits, except}
 use Rattle.assembly.proofs.Framing.{passive_is, feeding_is, fixed_is}
 use Rattle.assembly.proofs.frame.Frame.of.Goals as goal
 

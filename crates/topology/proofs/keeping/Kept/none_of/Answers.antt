@@ -1,9 +1,9 @@
 use Rattle.std.proofs.Common.{sym, subst}
 use mathlib.Core.Path.{fun_ext}
 use Rattle.graphs.specs.Graph.{Set, empty}
-use Rattle.topology.specs.Networks.{graph_of, Labelled}
-use Rattle.topology.proofs.Bits.{bits_zero}
-use Rattle.topology.proofs.Growing.{labelled_apart}
+use Rattle.networks.specs.Networks.{graph_of, Labelled}
+use Rattle.networks.proofs.Bits.{bits_zero}
+use Rattle.networks.proofs.Growing.{labelled_apart}
 use Rattle.topology.proofs.keeping.Kept.none_of.Goals as goal
 
 pub invariant_of-result : goal.invariant_of-result

@@ -1,8 +1,8 @@
 use Rattle.std.proofs.Common.{refl, ap, ◌∙◌, rules}
 use Rattle.graphs.specs.Greedy.{kept, of_class, members}
 use Rattle.topology.specs.declared.keeping.Kept.{Kept}
-use Rattle.topology.specs.Networks.{kind_class, graph_of, placed, class_at}
-use Rattle.topology.specs.Words.{bits}
+use Rattle.networks.specs.Networks.{kind_class, graph_of, placed, class_at}
+use Rattle.networks.specs.Words.{bits}
 use Rattle.topology.proofs.Sweeping.{sweep_more}
 use Rattle.topology.proofs.keeping.Kept.swept.Goals as goal
 use Rattle.topology.proofs.keeping.Kept.swept.Goals.{then-is_of_kind, else-is_of_kind}

@@ -1,7 +1,7 @@
 use Rattle.std.proofs.Common.{◌≡◌}
 use Rattle.graphs.specs.Greedy.{kept, of_class, members}
-use Rattle.topology.specs.Networks.{kind_class, graph_of, placed, class_at}
-use Rattle.topology.specs.Words.{bits}
+use Rattle.networks.specs.Networks.{kind_class, graph_of, placed, class_at}
+use Rattle.networks.specs.Words.{bits}
 use Rattle.topology.proofs.keeping.Kept.swept.Given as goal
 
 abbrev pub invariant-loop-k : goal.invariant-loop-k

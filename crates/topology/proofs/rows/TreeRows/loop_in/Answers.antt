@@ -1,5 +1,5 @@
 use Rattle.std.proofs.Common.{sym, ◌∙◌}
-use Rattle.topology.proofs.Networks.{placed_below}
+use Rattle.networks.proofs.Networks.{placed_below}
 use Rattle.topology.proofs.rows.TreeRows.loop_in.Goals as goal
 
 pub loop_along-requires : goal.loop_along-requires

@@ -2,10 +2,10 @@ use Rattle.std.proofs.Common.{◌^◌, ◌<◌, sym, ap, ◌∙◌, arith}
 use Rattle.sheet.specs.declared.refusal.Shown.{Shown}
 use Rattle.graphs.specs.Cuts.{turned}
 use Rattle.topology.specs.Matrices.{entry}
-use Rattle.topology.specs.Networks.{graph_of}
-use Rattle.topology.specs.Words.{bits}
+use Rattle.networks.specs.Networks.{graph_of}
+use Rattle.networks.specs.Words.{bits}
 use Rattle.topology.proofs.ByCuts.{loop_by_cut}
-use Rattle.topology.proofs.Networks.{loop_own, loop_outside}
+use Rattle.networks.proofs.Networks.{loop_own, loop_outside}
 use Rattle.topology.proofs.rows.TreeRows.passes.Goals as goal
 
 pub returns-then-j-k : goal.returns-then-j-k

@@ -1,5 +1,5 @@
 use Rattle.std.proofs.Common.{rules}
-use Rattle.topology.specs.Networks.{graph_of}
+use Rattle.networks.specs.Networks.{graph_of}
 use Rattle.topology.proofs.stars.Stars.of.Goals as goal
 
 pub returns : goal.returns

@@ -1,0 +1,7 @@
+use Rattle.std.proofs.Common.{rules}
+use Rattle.networks.specs.Networks.{graph_of}
+use Rattle.networks.proofs.network.tail.Goals as goal
+
+pub returns : goal.returns
+unfolding graph_of
+returns c = search rules

@@ -1,6 +1,0 @@
-use Rattle.std.proofs.Common.{◌∙◌}
-use Rattle.topology.proofs.Networks.{among_up_to, no_current_low}
-use Rattle.topology.proofs.network.no_current_sources.Goals as goal
-
-pub returns : goal.returns
-returns c = c.branches_of.ensures ∙ among_up_to c.args.plan.now _ 3 no_current_low

@@ -1,6 +1,0 @@
-use Rattle.std.proofs.Common.{◌∙◌}
-use Rattle.topology.proofs.Networks.{among_up_to, voltage_low}
-use Rattle.topology.proofs.network.voltage_sources.Goals as goal
-
-pub returns : goal.returns
-returns c = c.branches_of.ensures ∙ among_up_to c.args.plan.now _ 0 voltage_low
