@@ -66,9 +66,10 @@ fn text_by<F: FnOnce(&mut String, Circuit) -> Result<(), AllocError>>(
 fn push_key(text: &mut String, circuit: Circuit, input: &[u8]) -> Result<(), AllocError>
     ensures { Adds result (string_bytes text.old) (string_bytes text.new) (text_of (key_blocks input.now (record { plan = circuit.sheet.plan; rows = circuit.sheet.rows }) circuit.tree)) }
 {
-    push_network(text, &circuit)?;
-    let Circuit { mut sheet, .. } = circuit;
-    push_readings(text, &mut sheet)?;
+    let framed = circuit.framed();
+    let mut rows = circuit.sheet.rows;
+    push_network(text, &framed)?;
+    push_readings(text, &framed, &mut rows)?;
     push_residues(text, input)
 }
 
@@ -77,7 +78,7 @@ pub fn printed_key(heap: Global, input: &[u8]) -> Result<String, AllocError>
     ensures text { IfOk result (λ t. string_bytes t ≡ network_text input.now) }
     ensures too_long { 4096 < length input.now → IfOk result (λ t. string_bytes t ≡ codes "refused 25\n") }
 {
-    text_by(heap, input, |text, circuit| push_network(text, &circuit))
+    text_by(heap, input, |text, circuit| push_network(text, &circuit.framed()))
 }
 
 // The same with the readings and the remainders.

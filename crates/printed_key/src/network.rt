@@ -5,11 +5,10 @@ ghost use Rattle.printed_key.specs.Text.{Adds, text_of, listed};
 ghost use Rattle.sheet.specs.declared.refusal.Shown.{Shown};
 ghost use Rattle.sheet.specs.Refusals.{Answer, granted};
 
-use crate::circuit::Circuit;
 use crate::words::{Members, Signed};
 use sheet::Shown;
 use std::alloc::AllocError;
-use topology::TreeRows;
+use stepping::Framed;
 
 // `loop 1 -0 +1 +2` for each place that has a row: the name, the place, and the signed members.
 fn push_rows<F: Fn(u32) -> Option<Shown>>(
@@ -29,11 +28,11 @@ fn push_rows<F: Fn(u32) -> Option<Shown>>(
 }
 
 // `tree 0 2`, a line for each link, and a line for each tree branch.
-pub(crate) fn push_network(text: &mut String, circuit: &Circuit) -> Result<(), AllocError>
-    ensures { Adds result (string_bytes text.old) (string_bytes text.new) (text_of (network_lines circuit.now.sheet.plan circuit.now.tree)) }
+pub(crate) fn push_network(text: &mut String, framed: &Framed) -> Result<(), AllocError>
+    ensures { Adds result (string_bytes text.old) (string_bytes text.new) (text_of (network_lines framed.now.plan.now framed.now.frame.tree)) }
 {
-    writeln!(text, "tree{}", Members(circuit.tree))?;
-    let rows = TreeRows::of(&circuit.sheet.plan, circuit.tree);
+    writeln!(text, "tree{}", Members(framed.frame.tree))?;
+    let rows = framed.rows();
     push_rows(text, "loop", |k| rows.loop_in(k))?;
     push_rows(text, "cut", |k| rows.cut_in(k))
 }

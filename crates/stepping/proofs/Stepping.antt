@@ -60,6 +60,22 @@ passes : {X : Type 0} (a : Answer X) → pass ≡ verdict_of a → Granted a
 passes (granted x) e = record { what = x; is = refl }
 passes (refused t) e = cc
 
+-- what is asked before the tree: where it is granted, and where it is refused
+abbrev asked_by : Bool → Bool → Answer (Unit {0})
+asked_by a b = refuse 1 a (refuse 11 (not b) (granted tt))
+
+asked_all : (a b : Bool) → granted tt ≡ asked_by a b → (not a ≡ true) × (b ≡ true)
+asked_all true b e = cc
+asked_all false true e = (refl, refl)
+asked_all false false e = cc
+
+asked_none :
+    (C : Told → Type 0) (a b : Bool) (t : Told) → refused t ≡ asked_by a b →
+    (not a ≡ false → C (record { number = 1; words = [] })) → (not a ≡ true → b ≡ false → C (record { number = 11; words = [] })) → C t
+asked_none C true b t e areas length = subst C (sym (one_told {X = Unit {0}} t _ e)) (areas refl)
+asked_none C false false t e areas length = subst C (sym (one_told {X = Unit {0}} t _ e)) (length refl refl)
+asked_none C false true t e areas length = cc
+
 module _ {V M : Type 0} (o : Ops M) (mean : V → M) (nil : V) (plan : Plan) (rows : List (Row V)) (h : V) (work : List V) where
   abbrev sheet : Sheet M
   sheet = meant_sheet mean (record { plan = plan; rows = rows })
@@ -106,6 +122,15 @@ module _ {V M : Type 0} (o : Ops M) (mean : V → M) (nil : V) (plan : Plan) (ro
             alone = s.alone;
             places = d ∙ sym (cond-true _ _ _ (ap spends s.answers ∙ settled-spends o (mean h) sheet));
           }
+
+  abbrev asked : Answer (Unit {0})
+  asked = asked_by (not (eqb (length rows) 32) || ltb (length work) 304) (o.is_sound (mean h) && may_divide o (mean h))
+
+  pub may_not : (t : Told) → refused t ≡ asked → StepDoes o mean nil plan rows h work (fail t) rows work
+  may_not t e = asked_none (λ t. StepDoes o mean nil plan rows h work (fail t) rows work) _ _ t e no_areas no_length
+
+  pub may : granted tt ≡ asked → (not (not (eqb (length rows) 32) || ltb (length work) 304) ≡ true) × ((o.is_sound (mean h) && may_divide o (mean h)) ≡ true)
+  may e = asked_all _ _ e
 
   -- what that is in a story
   module _ (v : Verdict) (rows' : List (Row V)) (work' : List V) (does : StepDoes o mean nil plan rows h work v rows' work') where

@@ -2,7 +2,7 @@
 ghost use Rattle.std.specs.Prelude.{◌≡◌, not, ◌&&◌, ◌||◌, T, List, map, length, replicate, ◌==◌, nat_lt};
 ghost use Rattle.arithmetic.specs.Ops.{may_divide};
 ghost use Rattle.sheet.specs.Meanings.{meant_row, meant_sheet};
-ghost use Rattle.sheet.specs.Refusals.{verdict};
+ghost use Rattle.sheet.specs.Refusals.{granted, refuse, told, verdict};
 ghost use Rattle.stepping.specs.Calls.{StepDoes, Continues};
 ghost use Rattle.stepping.specs.Steps.{Worked, Settles};
 ghost use Rattle.stories.specs.Stories.{StoryCall, run};
@@ -48,6 +48,19 @@ fn is_step_length<N: Arithmetic>(h: N) -> bool
     h.is_sound() & may_divide(h)
 }
 
+// What is asked before the tree: 1, 11.
+fn may_step<N: Arithmetic>(rows: usize, places: usize, h: N) -> Result<(), Refusal>
+    ensures { told result ≡ refuse 1 (not (rows == 32) || nat_lt places 304) (refuse 11 (not (N.ops.is_sound (N.mean h) && may_divide N.ops (N.mean h))) (granted tt)) }
+{
+    if !has_areas(rows, places) {
+        return Err(Refusal::WrongLength);
+    }
+    if !is_step_length(h) {
+        return Err(Refusal::BadStepLength);
+    }
+    Ok(())
+}
+
 // The step once its tree is known: 14, 15, or the new figures in the rows.
 fn advance<N: Arithmetic>(
     framed: &Framed,
@@ -91,6 +104,26 @@ fn settle<N: Arithmetic>(
     answer
 }
 
+impl Framed<'_> {
+    // One time step of length h on the plan with this tree: as `step`, which would find the tree first.
+    pub fn step<N: Arithmetic>(
+        &self,
+        rows: &mut [Row<N>],
+        h: N,
+        work: &mut [N],
+    ) -> Result<(), Refusal>
+        ensures { StepDoes N.ops N.mean N.nil self.now.plan.now rows.old h work.old (verdict result) rows.new work.new }
+    {
+        may_step(rows.len(), work.len(), h)?;
+        // The test of both lengths comes first, since it shows that arrays so long fit in memory.
+        let (Some(rows), Some(area)) = (rows.as_mut_array::<32>(), work.first_chunk_mut::<304>())
+        else {
+            unreachable!()
+        };
+        settle(self, rows, h, area)
+    }
+}
+
 // One time step of length h: new currents and voltages in the rows of all placed branches. Refused by 1, 11, 12, 13,
 // 14 and 15 in that order; a refused step leaves the rows. A granted step, 14 and 15 leave zeros in the first 304
 // places of the work area; no other place is touched.
@@ -105,20 +138,11 @@ pub fn step<N: Arithmetic>(
     ensures stories { T N.EXACT → TheoremOfStories N.ops }
     ensures trees { TreesOfStories N.ops }
 {
-    if !has_areas(rows.len(), work.len()) {
-        return Err(Refusal::WrongLength);
-    }
-    if !is_step_length(h) {
-        return Err(Refusal::BadStepLength);
-    }
+    may_step(rows.len(), work.len(), h)?;
     let tree = tree(plan)?;
     let framed = Framed {
         plan,
         frame: Frame::of(plan, tree),
     };
-    // The test of both lengths comes first, since it shows that arrays so long fit in memory.
-    let (Some(rows), Some(area)) = (rows.as_mut_array::<32>(), work.first_chunk_mut::<304>()) else {
-        unreachable!()
-    };
-    settle(&framed, rows, h, area)
+    framed.step(rows, h, work)
 }

@@ -10,4 +10,5 @@ mod framed;
 mod telling;
 
 pub use calls::step;
+pub use framed::Framed;
 pub use telling::calls_tell_stories;

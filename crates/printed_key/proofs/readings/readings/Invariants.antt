@@ -4,4 +4,4 @@ use Rattle.printed_key.specs.Blocks.{readings_below}
 use Rattle.printed_key.proofs.readings.readings.Given as goal
 
 abbrev pub invariant-loop-k : goal.invariant-loop-k
-invariant-loop-k l = (readings_below l.sheet.plan l.sheet.rows l.k ≡ granted (take l.k l.reading-items)) × (length l.reading-items ≡ 32)
+invariant-loop-k l = (readings_below l.plan l.rows l.k ≡ granted (take l.k l.reading-items)) × (length l.reading-items ≡ 32)
