@@ -1,16 +1,18 @@
 """Plants bugs one at a time and says which are refused; ends with status 1 where one is not, or fits no text.
 
-    python3 tools/planted.py [CRATE..] [--only WORD] [--in DIR]
+    python3 tools/planted.py [CRATE..] [--only WORD] [--in DIR] [--unproved]
 
 The bugs stand in planted/CRATE/NAME.edit, in the form of the edits that the gate tries: a line `file: src/lib.rt`, then
 pairs of lines `old: TEXT` and `new: TEXT`, where each old text stands once in the file. Such a bug is refused where a
 fact of the crate fails under it. A bug that no contract of the crate can tell has a first line `caught by: OTHER`: it is
-refused where the tests or the stored output of the crate OTHER fail under it.
+refused where the tests or the stored output of the crate OTHER fail under it; that it is proved is checked too. With
+--unproved it is not, and OTHER is run as it is, without its proof: that takes seconds and not minutes.
 
 It works on a clone of what is committed here, in a folder of its own or in DIR, which is kept for the next time.
 """
 
 import argparse
+import os
 import re
 import subprocess
 import sys
@@ -77,6 +79,30 @@ def changed_text(edit, clone, crate):
     return catcher
 
 
+def runs_as_stored(catcher, clone):
+    """Runs a program or the tests of a crate, unproved; answers whether it does what is stored, and its last line."""
+    folder = clone / "crates" / catcher
+    if not (folder / "stdout").exists():
+        status, said = run(["rt", "try", "--test"], folder)
+        return status == 0, (said.strip().splitlines() or [""])[-1]
+    args = (folder / "args").read_text().split() if (folder / "args").exists() else []
+    data = [f"{file.name}={file}" for file in sorted((folder / "data").glob("*"))]
+    command = ["rt", "try", *(word for one in data for word in ("--data", one)), "--", *args]
+    with open(folder / "stdin" if (folder / "stdin").exists() else os.devnull, "rb") as given:
+        done = subprocess.run(command, cwd=folder, stdin=given, stdout=subprocess.PIPE, stderr=subprocess.PIPE)
+    same = done.stdout == (folder / "stdout").read_bytes()
+    return same, f"status {done.returncode}, the stored output {'is' if same else 'is not'} printed"
+
+
+def by_running(crate, edit, clone):
+    """Tries a bug that tests catch, unproved: the other crate's program or tests tell it."""
+    catcher = changed_text(edit, clone, crate)
+    same, told = runs_as_stored(catcher, clone)
+    git(["checkout", "-q", "--force", "."], clone)
+    print(f"{crate} {edit.stem}: {catcher}: {told}", flush=True)
+    return not same
+
+
 def by_tests(crate, edit, clone):
     """Tries a bug that tests catch: its own crate is proved with it, and the other crate fails with it."""
     catcher = changed_text(edit, clone, crate)
@@ -93,6 +119,7 @@ def main():
     parser.add_argument("crates", nargs="*")
     parser.add_argument("--only", default="")
     parser.add_argument("--in", dest="where")
+    parser.add_argument("--unproved", action="store_true")
     asked = parser.parse_args()
     names = asked.crates or sorted(p.name for p in (TOP / "planted").iterdir() if p.is_dir())
     with tempfile.TemporaryDirectory() as made:
@@ -105,8 +132,9 @@ def main():
             facts = [e for e in edits if e not in tested]
             if facts:
                 good &= by_facts(crate, facts, clone)
+            catches = by_running if asked.unproved else by_tests
             for edit in tested:
-                good &= bool(by_tests(crate, edit, clone))
+                good &= bool(catches(crate, edit, clone))
     sys.exit(0 if good else 1)
 
 
