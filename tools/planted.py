@@ -94,13 +94,19 @@ def runs_as_stored(catcher, clone):
     return same, f"status {done.returncode}, the stored output {'is' if same else 'is not'} printed"
 
 
-def by_running(crate, edit, clone):
-    """Tries a bug that tests catch, unproved: the other crate's program or tests tell it."""
-    catcher = changed_text(edit, clone, crate)
+def by_running(crate, edit, clone, right={}):
+    """Tries a bug that tests catch, unproved: the other crate does what is stored, and with the bug it does not."""
+    catcher = edit.read_text().splitlines()[0].partition(": ")[2]
+    if catcher not in right:
+        right[catcher], told = runs_as_stored(catcher, clone)
+        print(f"{catcher} without a bug: {told}", flush=True)
+        if not right[catcher]:
+            return False
+    changed_text(edit, clone, crate)
     same, told = runs_as_stored(catcher, clone)
     git(["checkout", "-q", "--force", "."], clone)
     print(f"{crate} {edit.stem}: {catcher}: {told}", flush=True)
-    return not same
+    return right[catcher] and not same
 
 
 def by_tests(crate, edit, clone):

@@ -5,8 +5,8 @@ ghost use Rattle.graphs.specs.Labels.{merge};
 ghost use Rattle.networks.specs.Networks.{graph_of, Labelled, alike};
 ghost use Rattle.networks.specs.Words.{bits};
 
+use crate::ascending::members_of;
 use crate::network::{Node, head, tail};
-use crate::words::has;
 use sheet::Plan;
 
 // A label of each node.
@@ -37,10 +37,8 @@ impl Labels {
         ensures { Labelled (graph_of plan.now) (bits word) 32 result.of }
     {
         let mut labels = Labels::apart();
-        for k in 0..32 {
-            if has(word, k) {
-                labels.join(tail(plan, k), head(plan, k));
-            }
+        for k in members_of(word) {
+            labels.join(tail(plan, k), head(plan, k));
         }
         labels
     }

@@ -9,7 +9,7 @@ use Rattle.topology.specs.Rows.{marks, backs, shown}
 use Rattle.topology.specs.Stars.{Star}
 use Rattle.networks.specs.Words.{bits, except, under}
 use Rattle.networks.proofs.Bits.{bits_zero, under_in, under_out, under_none}
-use Rattle.topology.proofs.Gathering.{gathered-all}
+use Rattle.topology.proofs.Gathering.{row_is}
 
 pub star_none : (e : ℕ → ℕ) → Star e 0 (replicate 16 0)
 star_none e x h = ap bits (get_or-replicate 16 x 0 0 h) ∙ sym (under_none (λ k. eqb (e k) x))
@@ -38,12 +38,10 @@ reach_none S n k = bits_zero k ∙ sym (and_right (S k) (ltb n 0) (le-ltb n 0 (o
 -- the row of what leaves and what enters
 pub row_across : (l e m b : ℕ) (a c : Set) → bits l ≡ under a 32 → bits e ≡ under c 32 → ((k : ℕ) → bits m k ≡ (except (bits l) (bits e) k || bits b k)) → bits b ≡ except (bits e) (bits l) → m < 2 ^ 32 → b < 2 ^ 32
     → record { members = m; against = b } ≡ shown (λ k. diff (a k) (c k))
-row_across l e m b a c left right more back fits fits' = gathered-all (λ k. diff (a k) (c k)) (record { members = m; against = b }) (record {
-  members = fun_ext (λ k. more k ∙ ap (λ S. except (bits l) (bits e) k || S k) back ∙ (λ i. except (left i) (right i) k || except (right i) (left i) k) ∙ either (a k) (c k) (ltb k 32));
-  against = fun_ext (λ k. ap (λ S. S k) back ∙ (λ i. except (right i) (left i) k) ∙ alone (a k) (c k) (ltb k 32));
-  members-fit = fits;
-  against_fit = fits';
-})
+row_across l e m b a c left right more back fits fits' =
+    row_is (λ k. diff (a k) (c k)) (record { members = m; against = b }) fits fits'
+    (fun_ext (λ k. more k ∙ ap (λ S. except (bits l) (bits e) k || S k) back ∙ (λ i. except (left i) (right i) k || except (right i) (left i) k) ∙ either (a k) (c k) (ltb k 32)))
+    (fun_ext (λ k. ap (λ S. S k) back ∙ (λ i. except (right i) (left i) k) ∙ alone (a k) (c k) (ltb k 32)))
   where
     either : (x y t : Bool) → (((x && t) && not (y && t)) || ((y && t) && not (x && t))) ≡ (marks (diff x y) && t)
     either true true true = refl

@@ -6,8 +6,7 @@
 -- nothing      a row without members
 -- shown f      the row f: the word of its members, and that of those with minus
 -- cut_from     the cut of the nodes that the members of S join with the node x
--- Gathered     the members and those with minus, as far as the places below n go
-use Rattle.std.specs.Prelude.{◌≡◌, ℕ, ◌^◌, ◌<◌, Bool, true, false}
+use Rattle.std.specs.Prelude.{ℕ, Bool, true, false}
 use Rattle.graphs.specs.Cuts.{leaves}
 use Rattle.graphs.specs.Graph as graphs
 use Rattle.graphs.specs.Graph.{Graph, Set, plus, none, minus}
@@ -15,7 +14,7 @@ use Rattle.graphs.specs.Labels.{joins}
 use Rattle.sheet.specs.declared.refusal.Shown.{Shown}
 use Rattle.topology.specs.declared.sign.Sign.{Sign}
 use Rattle.topology.specs.declared.sign.Sign.TheVariants.{Plus, Zero, Minus}
-use Rattle.networks.specs.Words.{bits, word, under}
+use Rattle.networks.specs.Words.{word}
 
 abbrev pub sign_of : Sign → graphs.Sign
 sign_of Plus = plus
@@ -40,9 +39,3 @@ shown f = record { members = word (λ k. marks (f k)); against = word (λ k. bac
 
 unfoldable pub cut_from : Graph → Set → ℕ → Shown
 cut_from g S x = shown (leaves g (joins g S 32 x))
-
-pub record Gathered (f : ℕ → graphs.Sign) (n : ℕ) (s : Shown) : Type 0 where
-  pub members : bits s.members ≡ under (λ k. marks (f k)) n
-  pub against : bits s.against ≡ under (λ k. backs (f k)) n
-  pub members-fit : s.members < 2 ^ 32
-  pub against_fit : s.against < 2 ^ 32

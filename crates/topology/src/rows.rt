@@ -1,7 +1,7 @@
 // Rows of signs: cuts of nodes, and loops along a branch.
-ghost use Rattle.std.specs.Prelude.{◌≡◌, ℕ, ◌<◌, slice_index_or};
+ghost use Rattle.std.specs.Prelude.{◌≡◌, ℕ, ◌<◌, false, slice_index_or};
 ghost use Rattle.graphs.specs.Cuts.{diff, loop_row};
-ghost use Rattle.graphs.specs.Graph.{Set};
+ghost use Rattle.graphs.specs.Graph.{Set, none};
 ghost use Rattle.graphs.specs.Graph as graphs;
 ghost use Rattle.topology.specs.Matrices.{entry};
 ghost use Rattle.networks.specs.Networks.{graph_of};
@@ -13,7 +13,7 @@ ghost use Rattle.networks.specs.Words.{bits, under};
 
 use crate::sign::Sign;
 use crate::stars::{Stars, reach};
-use networks::{Labels, Node, either, has, insert_if, is_placed, less, remove, tail};
+use networks::{Labels, Node, either, has, insert_if, is_placed, less, members_of, remove, tail};
 use sheet::{Plan, Shown};
 use std::array::from_fn;
 
@@ -28,14 +28,16 @@ pub(crate) fn difference(first: bool, second: bool) -> Sign
     }
 }
 
-// The row with the sign that is given for each place. A type for a place below 32 is no plainer: what gives the sign takes
-// any number.
-fn row_of<F: Fn(u32) -> Sign>(sign: F) -> Shown
+// The row with the sign that is given for each member of a word, and no sign at another place.
+fn row_of<F: Fn(u32) -> Sign>(members: u32, sign: F) -> Shown
     requires { F.IsAlwaysCallable sign }
-    ensures { (f : ℕ → graphs.Sign) → ((k : ℕ) (x : Sign) → k < 32 → F.post sign k x → sign_of x ≡ f k) → result ≡ shown f }
+    ensures { (f : ℕ → graphs.Sign) →
+        ((k : ℕ) (x : Sign) → k < 32 → F.post sign k x → sign_of x ≡ f k) →
+        ((k : ℕ) → k < 32 → bits members k ≡ false → f k ≡ none) →
+        result ≡ shown f }
 {
     let mut row = Shown::default();
-    for k in 0..32 {
+    for k in members_of(members) {
         let sign = sign(k);
         row.members = insert_if(row.members, k, sign != Sign::Zero);
         row.against = insert_if(row.against, k, sign == Sign::Minus);
@@ -152,7 +154,7 @@ impl<'a> TreeRows<'a> {
         requires { k < 32 }
         ensures { result ≡ shown (loop_row (graph_of self.now.plan.now) (bits self.now.tree) 32 k) }
     {
-        row_of(|j| self.passes(k, j))
+        row_of(insert_if(self.tree, k, true), |j| self.passes(k, j))
     }
 
     // The loop row of a link, a placed branch outside the tree; none for another number.
