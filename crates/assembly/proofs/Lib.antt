@@ -1,5 +1,6 @@
 pub mod Turns
 pub mod Reading
+pub mod Overs
 pub mod Members
 pub mod Framing
 pub mod Filling

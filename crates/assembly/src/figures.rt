@@ -14,8 +14,8 @@ use crate::setting::Setting;
 use crate::system::place_among;
 use arithmetic::Arithmetic;
 use linear::{get, place};
-use std::array::from_fn;
 use networks::has;
+use std::array::from_fn;
 use topology::sign_at;
 
 impl<'a, N: Arithmetic> Setting<'a, N> {

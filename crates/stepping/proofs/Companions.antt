@@ -21,6 +21,10 @@ pub row_at_lem : {V M : Type 0} (o : Ops M) (mean : V → M) (rows : List (Row V
 unfolding row_at
 row_at_lem o mean rows k d l = sym (get_or-map (meant_row mean) rows k d _ l)
 
+-- conductance and feed of the branch k put into the area
+abbrev pub storing : {M : Type 0} → Ops M → Plan → M → (ℕ → Row M) → ℕ → List M → List M
+storing o p h at k w = set (set w k (conductance o h (kind_at p k) (at k))) (32 + k) (feed o h (kind_at p k) (at k))
+
 module _ {M : Type 0} (o : Ops M) (p : Plan) (h : M) (at : ℕ → Row M) (k : ℕ) (w : List M) where
   pub stored : (b : Branch) (r : Row M) → k < 32 → Some b ≡ branch_at p k → r ≡ at k →
       cond (is_feeding (Some b.kind)) (set (set w k (conductance o h (Some b.kind) r)) (32 + k) (feed o h (Some b.kind) r)) w ≡ companion_turn o p h at k w

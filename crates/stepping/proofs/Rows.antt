@@ -1,40 +1,18 @@
 -- Rows renewed place by place, and results asked one by one. Assumes nothing.
-use Rattle.std.proofs.Common.{◌≡◌, ℕ, zero, suc, ◌+◌, ◌<◌, Bool, true, false, ◌||◌, List, map, length, get_or, set, sym, refl, ap, ◌∙◌, ap₂, arith, get_or-set_other}
+use Rattle.std.proofs.Common.{◌≡◌, ℕ, ◌<◌, true, List, map, length, get_or, set, sym, ap, ◌∙◌, ap₂, get_or-set_other}
 use Rattle.std.proofs.lemmas.List.{map-set, get_or-map, set-get_or}
-use Rattle.std.proofs.Math.Bool.{or-false}
 use Rattle.std.proofs.lemmas.Bool.{both_ways, cond-true}
-use Rattle.std.specs.List.{list_any, range_with_len}
 use Rattle.arithmetic.specs.Ops.{Ops}
 use Rattle.sheet.specs.declared.plan.Plan.{Plan}
 use Rattle.sheet.specs.declared.row.Row.{Row}
 use Rattle.sheet.specs.Meanings.{meant_row}
-use Rattle.graphs.specs.Graph.{Set}
 use Rattle.networks.specs.Networks.{placed}
-use Rattle.stories.specs.Networks.{any}
 use Rattle.stories.specs.Steps.{row_at, renewed}
 use Rattle.stepping.specs.Steps.{renewed_at, given, Others}
 
--- asked of the numbers below n, from the lowest up or from the highest down
-any_more : (S : Set) (k : ℕ) → any S (k + 1) ≡ (S k || any S k)
-unfolding any
-any_more S k = ap (any S) (let s : k + 1 ≡ suc k = omega arith in s)
-
-or_last : (a b c : Bool) → (a || (b || c)) ≡ ((b || a) || c)
-or_last true true c = refl
-or_last true false c = refl
-or_last false true c = refl
-or_last false false c = refl
-
-asked-from : (S : Set) (k n : ℕ) → (any S k || list_any S (range_with_len k n)) ≡ any S (k + n)
-asked-from S k zero = or-false (any S k) ∙ ap (any S) (let e : k ≡ k + 0 = omega arith in e)
-asked-from S k (suc n) =
-    or_last (any S k) (S k) (list_any S (range_with_len (k + 1) n))
-    ∙ ap (λ (b : Bool). b || list_any S (range_with_len (k + 1) n)) (sym (any_more S k))
-    ∙ asked-from S (k + 1) n ∙ ap (any S) (let e : k + 1 + n ≡ k + suc n = omega arith in e)
-
-pub any_listed : (S : Set) (n : ℕ) → list_any S (range_with_len 0 n) ≡ any S n
-unfolding any
-any_listed S n = asked-from S 0 n ∙ ap (any S) (let e : 0 + n ≡ n = omega arith in e)
+-- the row of the branch k with its new figures
+abbrev pub renewing : {M : Type 0} → Ops M → List M → List M → ℕ → List (Row M) → List (Row M)
+renewing o currents voltages k rs = set rs k (renewed (row_at o rs k) (get_or currents k o.nought) (get_or voltages k o.nought))
 
 -- what was given stays
 pub gives_same : {V : Type 0} (rows rows' : List (Row V)) (k : ℕ) (z : Row V) (i u : V) → rows' ≡ set rows k (renewed (get_or rows k z) i u) → k < length rows → map given rows' ≡ map given rows

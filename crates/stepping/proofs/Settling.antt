@@ -20,7 +20,7 @@ use Rattle.assembly.specs.Figures.{in_use, Filled}
 use Rattle.stepping.specs.Steps.{unsound_at, renewed_at, given, settled, Settles, Others}
 
 -- asked of the same numbers
-any-alike : (S R : Set) (n : ℕ) → ((k : ℕ) → k < n → S k ≡ R k) → any S n ≡ any R n
+pub any-alike : (S R : Set) (n : ℕ) → ((k : ℕ) → k < n → S k ≡ R k) → any S n ≡ any R n
 unfolding any
 any-alike S R zero e = refl
 any-alike S R (suc n) e = ap₂ (λ (a b : Bool). a || b) (e n (omega arith)) (any-alike S R n (λ k l. e k (omega arith)))

@@ -28,7 +28,7 @@ fn solve_system<N: Arithmetic>(
     ensures { Worked N.ops (N.mean h) (record { plan = framed.now.plan.now; rows = map (meant_row N.mean) rows.now }) result (map N.mean area.new) }
 {
     clear(area);
-    store_companions(framed.plan, rows, h, area);
+    store_companions(framed, rows, h, area);
     let unknowns = assemble(&framed.frame, area, rows);
     solve(area, unknowns as usize).ok()?;
     Some(unknowns)
@@ -82,10 +82,10 @@ fn advance<N: Arithmetic>(
         currents: &currents,
         voltages: &voltages,
     };
-    if figures.are_unsound(framed.plan) {
+    if figures.are_unsound(framed) {
         return Err(Refusal::UnsoundResult);
     }
-    figures.renew_rows(framed.plan, rows);
+    figures.renew_rows(framed, rows);
     Ok(())
 }
 

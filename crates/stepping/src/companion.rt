@@ -6,8 +6,10 @@ ghost use Rattle.stories.specs.Assembly.{through};
 ghost use Rattle.stories.specs.Companions.{conductance, feed};
 ghost use Rattle.stories.specs.Steps.{row_at};
 
+use crate::framed::Framed;
 use arithmetic::Arithmetic;
 use linear::put;
+use networks::members_of;
 use sheet::{Kind, Plan, Row};
 
 #[derive(Clone, Copy)]
@@ -76,16 +78,15 @@ fn store<N: Arithmetic>(kind: Kind, row: Row<N>, h: N, area: &mut [N], k: usize)
 }
 
 // The companions of all branches.
-#[tactic(auto, using(assembly::proofs::Turns::turns))]
 pub(crate) fn store_companions<N: Arithmetic>(
-    plan: &Plan,
+    framed: &Framed,
     rows: &[Row<N>; 32],
     h: N,
     area: &mut [N],
 )
-    ensures { map N.mean area.new ≡ through (companion_turn N.ops plan.now (N.mean h) (row_at N.ops (map (meant_row N.mean) rows.now))) 32 (map N.mean area.old) }
+    ensures { map N.mean area.new ≡ through (companion_turn N.ops framed.now.plan.now (N.mean h) (row_at N.ops (map (meant_row N.mean) rows.now))) 32 (map N.mean area.old) }
 {
-    for k in 0..32 {
-        store_companion(plan, rows, h, area, k);
+    for k in members_of(framed.frame.feeding) {
+        store_companion(framed.plan, rows, h, area, k);
     }
 }

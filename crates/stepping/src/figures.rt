@@ -1,16 +1,17 @@
 // What a step finds for the branches, asked and written into the rows.
 ghost use Rattle.std.specs.Prelude.{◌≡◌, ◌<◌, map, slice_index_or, slice_set};
-ghost use Rattle.std.specs.List.{list_any, range_with_len};
 ghost use Rattle.sheet.specs.Meanings.{meant_row};
 ghost use Rattle.sheet.specs.declared.row.Row.{Row};
 ghost use Rattle.stepping.specs.Steps.{Others, unsound_at, renewed_at, given};
 ghost use Rattle.stories.specs.Assembly.{through};
+ghost use Rattle.stories.specs.Networks.{any};
 ghost use Rattle.stories.specs.Steps.{renewed};
 
+use crate::framed::Framed;
 use arithmetic::Arithmetic;
 use linear::get;
+use networks::{is_placed, members_of};
 use sheet::{Plan, Row};
-use networks::is_placed;
 
 // A row with a new current and voltage.
 fn renew<N: Copy>(rows: &mut [Row<N>; 32], k: usize, current: N, voltage: N)
@@ -48,10 +49,15 @@ impl<'a, N: Arithmetic> Figures<'a, N> {
     }
 
     // Some placed branch has an unsound current or voltage.
-    pub(crate) fn are_unsound(&self, plan: &Plan) -> bool
-        ensures { result ≡ list_any (unsound_at N.ops plan.now (map N.mean self.now.currents.now) (map N.mean self.now.voltages.now)) (range_with_len 0 32) }
+    pub(crate) fn are_unsound(&self, framed: &Framed) -> bool
+        ensures { result ≡ any (unsound_at N.ops framed.now.plan.now (map N.mean self.now.currents.now) (map N.mean self.now.voltages.now)) 32 }
     {
-        (0..32).any(|k| self.is_unsound(plan, k))
+        for k in members_of(framed.placed()) {
+            if self.is_unsound(framed.plan, k) {
+                return true;
+            }
+        }
+        false
     }
 
     // The row of the branch k with its new figures, if it is placed. A type for a place below 32 would be made by the
@@ -71,14 +77,13 @@ impl<'a, N: Arithmetic> Figures<'a, N> {
     }
 
     // The rows of all placed branches with their new figures.
-    #[tactic(auto, using(assembly::proofs::Turns::turns))]
-    pub(crate) fn renew_rows(&self, plan: &Plan, rows: &mut [Row<N>; 32])
-        ensures rows { map (meant_row N.mean) rows.new ≡ through (renewed_at N.ops plan.now (map N.mean self.now.currents.now) (map N.mean self.now.voltages.now)) 32 (map (meant_row N.mean) rows.old) }
+    pub(crate) fn renew_rows(&self, framed: &Framed, rows: &mut [Row<N>; 32])
+        ensures rows { map (meant_row N.mean) rows.new ≡ through (renewed_at N.ops framed.now.plan.now (map N.mean self.now.currents.now) (map N.mean self.now.voltages.now)) 32 (map (meant_row N.mean) rows.old) }
         ensures gives { map given rows.new ≡ map given rows.old }
-        ensures others { Others plan.now rows.old rows.new }
+        ensures others { Others framed.now.plan.now rows.old rows.new }
     {
-        for k in 0..32 {
-            self.renew_row(plan, rows, k);
+        for k in members_of(framed.placed()) {
+            self.renew_row(framed.plan, rows, k);
         }
     }
 }

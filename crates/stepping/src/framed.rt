@@ -1,10 +1,13 @@
 // What a step goes by once its plan has a tree.
 ghost use Rattle.std.specs.Prelude.{◌≡◌};
 ghost use Rattle.assembly.specs.Frames.{FrameOf};
+ghost use Rattle.networks.specs.Networks.{placed};
+ghost use Rattle.networks.specs.Words.{bits};
 ghost use Rattle.sheet.specs.Refusals.{granted};
 ghost use Rattle.topology.specs.Trees.{tree_of};
 
 use assembly::Frame;
+use networks::either;
 use sheet::Plan;
 use topology::TreeRows;
 
@@ -18,6 +21,13 @@ pub struct Framed<'a> {
 }
 
 impl<'a> Framed<'a> {
+    // The placed branches: those that feed and the voltage sources.
+    pub(crate) fn placed(&self) -> u32
+        ensures { bits result ≡ placed self.now.plan.now }
+    {
+        either(self.frame.feeding, self.frame.fixed)
+    }
+
     // The rows of the tree, whose cuts the frame has.
     pub fn rows(&self) -> TreeRows<'a>
         ensures plan { result.plan.now ≡ self.now.plan.now }

@@ -1,5 +1,4 @@
 use Rattle.std.proofs.Common.{sym, ◌∙◌, arith}
-use Rattle.stepping.proofs.Rows.{any_listed}
 use Rattle.stepping.proofs.Working.{figured, ok_some}
 use Rattle.stepping.proofs.Settling.{unsound_is, rows_are, is_unsound, settles_refused, settles-granted}
 use Rattle.stepping.proofs.calls.advance.Goals as goal
@@ -14,7 +13,7 @@ returns-then-are_unsound g c =
     let h = m c.args.h in
     let some = ok_some _ _ _ (sym c.ok_or.ensures.value ∙ c.in_ok-unknowns.was) in
     let q = figured o m p rows (omega arith) n.frame.tree n.tree h n.frame n.is _ _ _ _ _ c.solve_system.ensures some c.branch_voltages-voltages.ensures c.branch_currents-currents.ensures in
-    settles_refused o m h p rows _ (is_unsound o m h p rows q.ok (sym (unsound_is o h _ _ _ q.is q.us) ∙ sym (any_listed _ 32) ∙ sym c.are_unsound.ensures ∙ c.if-are_unsound.true))
+    settles_refused o m h p rows _ (is_unsound o m h p rows q.ok (sym (unsound_is o h _ _ _ q.is q.us) ∙ sym c.are_unsound.ensures ∙ c.if-are_unsound.true))
 
 pub returns : goal.returns
 returns g c =
@@ -26,4 +25,4 @@ returns g c =
     let h = m c.args.h in
     let some = ok_some _ _ _ (sym c.ok_or.ensures.value ∙ c.in_ok-unknowns.was) in
     let q = figured o m p rows (omega arith) n.frame.tree n.tree h n.frame n.is _ _ _ _ _ c.solve_system.ensures some c.branch_voltages-voltages.ensures c.branch_currents-currents.ensures in
-    settles-granted o m h p rows _ q.ok (sym (unsound_is o h _ _ _ q.is q.us) ∙ sym (any_listed _ 32) ∙ sym c.are_unsound.ensures ∙ c.if-are_unsound.false) (c.renew_rows.ensures.rows ∙ rows_are o h _ _ _ q.is q.us) c.renew_rows.ensures.gives c.renew_rows.ensures.others
+    settles-granted o m h p rows _ q.ok (sym (unsound_is o h _ _ _ q.is q.us) ∙ sym c.are_unsound.ensures ∙ c.if-are_unsound.false) (c.renew_rows.ensures.rows ∙ rows_are o h _ _ _ q.is q.us) c.renew_rows.ensures.gives c.renew_rows.ensures.others

@@ -1,12 +1,13 @@
-use Rattle.std.proofs.Common.{◌≡◌, map}
+use Rattle.std.proofs.Common.{map}
 use Rattle.sheet.specs.Meanings.{meant_row}
-use Rattle.stories.specs.Assembly.{through}
+use Rattle.networks.specs.Words.{bits}
 use Rattle.stories.specs.Steps.{row_at}
-use Rattle.stepping.specs.Steps.{companion_turn}
+use Rattle.stepping.proofs.Companions.{storing}
+use Rattle.stepping.proofs.Taking.{Rest}
 use Rattle.stepping.proofs.companion.store_companions.Given as goal
 
 abbrev pub invariant-loop-k : goal.invariant-loop-k
 invariant-loop-k g l =
     let o = g.N.Arithmetic.ops in
     let m = g.N.Arithmetic.mean in
-    map m l.area ≡ through (companion_turn o l.plan (m l.h) (row_at o (map (meant_row m) l.rows))) l.k (map m l.initial.area)
+    Rest (storing o l.framed.plan.now (m l.h) (row_at o (map (meant_row m) l.rows))) (bits l.framed.frame.feeding) (bits l.k-iterator.left) (map m l.initial.area) (map m l.area)
