@@ -1,9 +1,11 @@
-//! Measures the engine beside plain Rust and ngspice, in one run and by turns. `bench/run` builds it and calls it as
+//! Measures the engine beside plain Rust, its own source compiled by rustc, and ngspice, in one run and by turns.
+//! `bench/run` builds it and calls it as
 //!
-//!     harness KEY STEPS PLAIN COUNT EXAMPLES NAME CARDS NETLIST [NAME CARDS NETLIST]..
+//!     harness KEY STEPS PLAIN STRIPPED COUNT EXAMPLES NAME CARDS NETLIST [NAME CARDS NETLIST]..
 //!
-//! with the programs `key`, `steps` and `plain`, how many steps are taken, a folder of card files on which the two keys
-//! are compared first, and for each circuit its name, its card file and the companion network of one step of it.
+//! with the programs `key`, `steps`, `plain` and `stripped`, how many steps are taken, a folder of card files on which
+//! the three keys are compared first, and for each circuit its name, its card file and the companion network of one step
+//! of it.
 
 use std::error::Error;
 use std::fs::{self, File};
@@ -65,6 +67,16 @@ fn plain_key(cards: &[u8], buffer: &mut [u8]) -> usize {
     text.len()
 }
 
+fn stripped_key(cards: &[u8], buffer: &mut [u8]) -> usize {
+    let text = stripped::whole_key(cards);
+    let text = text.as_bytes();
+    buffer[..text.len()].copy_from_slice(text);
+    text.len()
+}
+
+/// The engine, plain Rust and the engine's own source: all figures stand in this order.
+const KEYS: [fn(&[u8], &mut [u8]) -> usize; 3] = [engine_key, plain_key, stripped_key];
+
 struct Circuit {
     name: String,
     cards: String,
@@ -93,19 +105,21 @@ fn load() -> String {
     load.split(' ').take(3).collect::<Vec<_>>().join(" ")
 }
 
-/// The engine and plain Rust make the same key of a card file.
+/// All three make the same key of a card file.
 fn compare_keys(cards: &[u8]) -> Answer<()> {
-    let (mut ours, mut theirs) = ([0; 8192], [0; 8192]);
-    let a = engine_key(cards, &mut ours);
-    let b = plain_key(cards, &mut theirs);
-    if ours.get(..a) != theirs.get(..b) {
+    let texts = KEYS.map(|key| {
+        let mut buffer = [0; 8192];
+        let length = key(cards, &mut buffer);
+        buffer.get(..length).map(<[u8]>::to_vec)
+    });
+    if texts[0].is_none() || texts.iter().any(|text| *text != texts[0]) {
         return Err(format!("the keys differ: {}", String::from_utf8_lossy(cards)).into());
     }
     Ok(())
 }
 
-/// Processor seconds for one whole key in this process: the engine's and plain Rust's.
-fn key_times(circuit: &Circuit) -> Answer<(f64, f64)> {
+/// Processor seconds for one whole key in this process.
+fn key_times(circuit: &Circuit) -> Answer<[f64; 3]> {
     let cards = fs::read(&circuit.cards)?;
     compare_keys(&cards)?;
     let batch = |key: fn(&[u8], &mut [u8]) -> usize, count: usize| {
@@ -116,16 +130,17 @@ fn key_times(circuit: &Circuit) -> Answer<(f64, f64)> {
         }
         (used_by(THIS_PROCESS) - before) / count as f64
     };
-    let counts = [engine_key, plain_key].map(|key| {
+    let counts = KEYS.map(|key| {
         batch(key, 100);
         (TURN / batch(key, 100)).ceil() as usize
     });
-    let (mut engine, mut plain) = (Vec::new(), Vec::new());
+    let mut times = [const { Vec::new() }; 3];
     for _ in 0..KEY_TURNS {
-        engine.push(batch(engine_key, counts[0]));
-        plain.push(batch(plain_key, counts[1]));
+        for ((times, key), count) in times.iter_mut().zip(KEYS).zip(counts) {
+            times.push(batch(key, count));
+        }
     }
-    Ok((median(engine), median(plain)))
+    Ok(times.map(median))
 }
 
 /// Runs a program on a card file; what it prints.
@@ -169,22 +184,26 @@ fn both_times(program: &[&str], input: &str) -> Answer<(f64, f64)> {
     Ok((clock, used_by(ENDED_PROGRAMS) - before))
 }
 
-/// Processor seconds for one step: the engine's and plain Rust's. Each turn is many steps less none, in a process.
-fn step_times(steps: &str, plain: &str, count: &str, circuit: &Circuit) -> Answer<(f64, f64)> {
-    let ours = [steps, count];
-    let theirs = [plain, "steps", count];
-    if output(&ours, &circuit.cards)? != output(&theirs, &circuit.cards)? {
-        return Err("the figures after the steps differ".into());
+/// Processor seconds for one step by each program, named with the words before the number of steps. Each turn is many
+/// steps less none, in a process.
+fn step_times(programs: [&[&str]; 3], count: &str, circuit: &Circuit) -> Answer<[f64; 3]> {
+    let none = programs.map(|program| [program, &["0"]].concat());
+    let all = programs.map(|program| [program, &[count]].concat());
+    let figures = output(&all[0], &circuit.cards)?;
+    for program in &all {
+        if output(program, &circuit.cards)? != figures {
+            return Err("the figures after the steps differ".into());
+        }
     }
     let many: f64 = count.parse()?;
-    let (mut engine, mut rust) = (Vec::new(), Vec::new());
+    let mut times = [const { Vec::new() }; 3];
     for _ in 0..STEP_TURNS {
-        let none = processor_time(&[steps, "0"], &circuit.cards)?;
-        engine.push((processor_time(&ours, &circuit.cards)? - none) / many);
-        let none = processor_time(&[plain, "steps", "0"], &circuit.cards)?;
-        rust.push((processor_time(&theirs, &circuit.cards)? - none) / many);
+        for (times, (none, all)) in times.iter_mut().zip(none.iter().zip(&all)) {
+            let none = processor_time(none, &circuit.cards)?;
+            times.push((processor_time(all, &circuit.cards)? - none) / many);
+        }
     }
-    Ok((median(engine), median(rust)))
+    Ok(times.map(median))
 }
 
 /// Seconds for a run of `key` and for one of ngspice: on the clock, and of the processor.
@@ -205,8 +224,10 @@ fn process_times(key: &str, circuit: &Circuit) -> Answer<[(f64, f64); 2]> {
 
 fn main() -> Answer<()> {
     let words: Vec<String> = std::env::args().skip(1).collect();
-    let [key, steps, plain, count, examples, rest @ ..] = &words[..] else {
-        return Err("usage: harness KEY STEPS PLAIN COUNT EXAMPLES NAME CARDS NETLIST ..".into());
+    let [key, steps, plain, stripped, count, examples, rest @ ..] = &words[..] else {
+        return Err(
+            "usage: harness KEY STEPS PLAIN STRIPPED COUNT EXAMPLES NAME CARDS NETLIST ..".into(),
+        );
     };
     let circuits: Vec<Circuit> = rest
         .chunks_exact(3)
@@ -223,28 +244,16 @@ fn main() -> Answer<()> {
     }
     println!("{compared} examples, no difference");
     println!("load of the machine before: {}", load());
-    println!("\nprocessor microseconds       engine      plain   engine / plain");
+    println!("\nprocessor microseconds       engine      plain   stripped   engine / plain   engine / stripped");
     let mut in_process = Vec::new();
     for circuit in &circuits {
-        let (engine, plain) = key_times(circuit)?;
-        in_process.push(engine);
-        line(
-            "whole key",
-            circuit,
-            engine * 1e6,
-            plain * 1e6,
-            engine / plain,
-        );
+        let times = key_times(circuit)?;
+        in_process.push(times[0]);
+        line_of_three("whole key", circuit, times);
     }
+    let programs: [&[&str]; 3] = [&[steps], &[plain, "steps"], &[stripped, "steps"]];
     for circuit in &circuits {
-        let (engine, plain) = step_times(steps, plain, count, circuit)?;
-        line(
-            "one step",
-            circuit,
-            engine * 1e6,
-            plain * 1e6,
-            engine / plain,
-        );
+        line_of_three("one step", circuit, step_times(programs, count, circuit)?);
     }
     println!("\nmilliseconds of a run           key    ngspice    ngspice / key");
     let mut runs = Vec::new();
@@ -282,5 +291,15 @@ fn line(what: &str, circuit: &Circuit, engine: f64, plain: f64, ratio: f64) {
     println!(
         "{what:<12} {:>3} branches {engine:>9.2}  {plain:>9.2}  {ratio:>15.2}",
         circuit.name
+    );
+}
+
+fn line_of_three(what: &str, circuit: &Circuit, times: [f64; 3]) {
+    let [engine, plain, stripped] = times.map(|time| time * 1e6);
+    println!(
+        "{what:<12} {:>3} branches {engine:>9.2}  {plain:>9.2}  {stripped:>9.2}  {:>15.2}  {:>18.2}",
+        circuit.name,
+        engine / plain,
+        engine / stripped
     );
 }
