@@ -3,7 +3,7 @@
     python3 strip.py DIR
 
 DIR gets a folder for each crate that the printed key stands on, and these name one another and ../shim by path. What
-the engine uses of Rattle's library, and Rust's does not have, is named in TABLE.
+the engine uses of Rattle's library, and Rust's does not have, is in TABLE and PRELUDE: no line but a `use` is written anew.
 """
 
 import re
@@ -16,17 +16,18 @@ ROOT = "printed_key"
 # What stands in the source, what stands in its place, and why.
 TABLE = [
     ("#[derive(Drop)]\n", "", "a type that may be let go; any may in Rust"),
-    (
-        "fn fmt<W: fmt::Write>(&self, f: &mut fmt::Formatter<W>)",
-        "fn fmt(&self, f: &mut fmt::Formatter)",
-        "Rust's formatter does not name its writer's type",
-    ),
     ("use std::alloc::", "use shim::alloc::", "Rust's Global and AllocError are unstable"),
+    ("use std::error::", "use shim::error::", "Rust's Error asks for Rust's Display"),
+    ("use std::fmt;", "use shim::fmt;", "Rust's formatter does not name its writer's type"),
     ("use std::num::", "use shim::num::", "saturating_f64_to_i32 is a cast in Rust"),
 ]
 
-# Files that speak of `String` get the one that is handed its heap, and whose text is pushed with `writeln!` alone.
-STRING = "use shim::string::String;\n"
+# What a file uses without a word, and the path that it is named by in Rust.
+PRELUDE = [
+    (r"\bString\b", "string::String"),
+    (r"\bwrite!", "write"),
+    (r"\bwriteln!", "writeln"),
+]
 
 TOKEN = re.compile(
     r"""//[^\n]*|b?"(?:\\.|[^"\\])*"|b?'(?:\\[^']+|[^\\'\n])'|\w+|\s+|.""", re.S
@@ -103,9 +104,10 @@ def stripped(text):
     text = Source(text).strip().lstrip("\n")
     for old, new, _ in TABLE:
         text = text.replace(old, new)
-    if re.search(r"\bString\b", text):
+    used = "".join(f"use shim::{path};\n" for mark, path in PRELUDE if re.search(mark, text))
+    if used:
         first_use = re.search(r"^(pub )?use ", text, re.M).start()
-        text = text[:first_use] + STRING + text[first_use:]
+        text = text[:first_use] + used + text[first_use:]
     return text
 
 

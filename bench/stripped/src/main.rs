@@ -29,11 +29,16 @@ fn shown_rows(plan: &Plan, rows: &[Row<f64>]) -> String {
 fn steps(count: u32, cards: &[u8]) -> String {
     let (mut plan, mut rows) = (Plan::empty(), fresh_rows::<f64>());
     if let Err(fault) = read_cards(cards, &mut plan, &mut rows) {
-        return format!("refused {fault}\n");
+        return format!(
+            "refused {} line {} byte {}\n",
+            fault.refusal.number(),
+            fault.line,
+            fault.byte
+        );
     }
     match take_steps(&plan, &mut rows, count) {
         Ok(()) => shown_rows(&plan, &rows),
-        Err(refusal) => format!("refused {refusal}\n"),
+        Err(refusal) => format!("refused {}\n", refusal.number()),
     }
 }
 

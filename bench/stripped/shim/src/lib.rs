@@ -1,5 +1,10 @@
 //! What the engine uses of Rattle's library and Rust's does not have: memory that is handed over and may run out, a text
-//! that is made in it, and the cast of a number by its name.
+//! that is made in it, a formatter that names its writer's type, and the cast of a number by its name.
+
+pub mod fmt;
+pub mod string;
+
+pub use shim_macros::{write, writeln};
 
 pub mod alloc {
     /// The heap that a text is made in: Rust's own.
@@ -10,30 +15,13 @@ pub mod alloc {
     pub struct AllocError;
 }
 
+pub mod error {
+    /// Rust's asks for Rust's formatting.
+    pub trait Error {}
+}
+
 pub mod num {
     pub fn saturating_f64_to_i32(x: f64) -> i32 {
         x as i32
-    }
-}
-
-pub mod string {
-    use crate::alloc::{AllocError, Global};
-    use std::fmt::{Arguments, Write};
-
-    pub struct String(std::string::String);
-
-    impl String {
-        pub fn new(_: Global) -> String {
-            String(std::string::String::new())
-        }
-
-        /// What `writeln!` calls.
-        pub fn write_fmt(&mut self, text: Arguments) -> Result<(), AllocError> {
-            self.0.write_fmt(text).map_err(|_| AllocError)
-        }
-
-        pub fn as_bytes(&self) -> &[u8] {
-            self.0.as_bytes()
-        }
     }
 }
