@@ -1,13 +1,18 @@
 // Linear systems of at most 15 unknowns over any arithmetic, solved in place.
 #![tactic(auto, using(linear::proofs::Turns::turns))]
 
-ghost use Rattle.std.specs.Prelude.{◌≡◌, ℕ, ◌<◌, true, T, map, length, is_ok, Err, slice_set};
-ghost use Rattle.linear.specs.Elimination.{cell, entry, lose_entry, lose_row, clear, swap_entry, swap_rows, eliminate_column, eliminate, lose_found, divide, back_row, back, solved};
+ghost use Rattle.std.specs.Prelude.{◌≡◌, ℕ, ◌<◌, ◌≤◌, true, T, map, length, is_ok, Err, slice_set};
+ghost use Rattle.linear.specs.Elimination.{cell, entry, clear, swap_entry, swap_rows, eliminate_column, eliminate, lose_found, divide, back_row, back, solved};
 ghost use Rattle.linear.specs.Inside.{Outside};
 ghost use Rattle.linear.specs.Systems.{member, Solution, TrivialKernel, Singular, found};
 ghost use Rattle.solver.specs.System.{Becomes};
 ghost use Rattle.solver.specs.Answer.{fits, answered, answer, leaves, pivot};
 
+mod rows;
+mod system;
+
+use crate::rows::lose_row;
+use crate::system::System;
 use arithmetic::{Arithmetic, may_divide};
 use linear::{get, place, put};
 
@@ -25,13 +30,6 @@ pub enum Unsolved {
     NoPivot,
 }
 
-// A system of so many unknowns, and the lent places where it stands.
-#[derive(Drop)]
-struct System<'a, N> {
-    work: &'a mut [N],
-    unknowns: u32,
-}
-
 impl<N: Arithmetic> System<'_, N> {
     // What stands in a row and a column.
     fn read(&self, row: u32, column: u32) -> N
@@ -46,32 +44,13 @@ impl<N: Arithmetic> System<'_, N> {
         put(self.work, place(row, column), value);
     }
 
-    // The lower row's entry in a column loses factor × the upper row's.
-    fn lose_entry(&mut self, upper: u32, lower: u32, factor: N, column: u32)
-        ensures { Becomes N.mean (lose_entry N.ops upper lower (N.mean factor) column) self.old self.new }
-    {
-        let lost = factor.product(self.read(upper, column));
-        let rest = self.read(lower, column).difference(lost);
-        self.write(lower, column, rest);
-    }
-
-    // A row loses entry / pivot × the pivot's row, from the pivot's column to the right side.
-    fn lose_row(&mut self, pivot: u32, row: u32)
-        ensures { Becomes N.mean (lose_row N.ops self.old.unknowns pivot row) self.old self.new }
-    {
-        let factor = self.read(row, pivot).quotient(self.read(pivot, pivot));
-        for column in pivot..=self.unknowns {
-            self.lose_entry(pivot, row, factor, column);
-        }
-    }
-
     // Every row below the pivot's loses its multiple of it, in turn.
     fn clear_below(&mut self, pivot: u32)
         ensures { Becomes N.mean (clear N.ops self.old.unknowns pivot) self.old self.new }
     {
         let unknowns = self.unknowns;
         for row in pivot.saturating_add(1)..unknowns {
-            self.lose_row(pivot, row);
+            lose_row(self.work, unknowns, pivot, row);
         }
     }
 
@@ -165,6 +144,8 @@ impl<N: Arithmetic> System<'_, N> {
 
 // Elimination, and back substitution where every column had a pivot.
 fn attempt<N: Arithmetic>(work: &mut [N], unknowns: u32) -> Result<(), Unsolved>
+    requires few { unknowns ≤ 15 }
+    requires room { 304 ≤ length work.old }
     ensures answer { result ≡ answered true (solved N.ops unknowns (map N.mean work.old)).ok }
     ensures left { map N.mean work.new ≡ (solved N.ops unknowns (map N.mean work.old)).left }
 {

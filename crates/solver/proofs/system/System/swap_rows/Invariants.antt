@@ -1,7 +1,7 @@
 use Rattle.std.proofs.Common.{◌≡◌, ◌+◌, map}
 use Rattle.linear.specs.Elimination.{swap_entry, swap_rows}
 use Rattle.linear.proofs.Turns.{Left}
-use Rattle.solver.proofs.System.swap_rows.Given as goal
+use Rattle.solver.proofs.system.System.swap_rows.Given as goal
 
 abbrev pub invariant-loop-column : goal.invariant-loop-column
 invariant-loop-column g l =

@@ -2,7 +2,7 @@ use Rattle.std.proofs.Common.{◌≡◌, ◌+◌, ◌-◌, map}
 use Rattle.linear.specs.Loops.{steps}
 use Rattle.linear.specs.Elimination.{lose_found}
 use Rattle.linear.proofs.Turns.{Left}
-use Rattle.solver.proofs.System.back_row.Given as goal
+use Rattle.solver.proofs.system.System.back_row.Given as goal
 
 abbrev pub invariant-loop-column : goal.invariant-loop-column
 invariant-loop-column g l =

@@ -1,7 +1,7 @@
 use Rattle.std.proofs.Common.{◌≡◌, map}
-use Rattle.linear.specs.Elimination.{lose_row, clear}
-use Rattle.linear.proofs.Turns.{Left}
-use Rattle.solver.proofs.System.clear_below.Given as goal
+use Rattle.linear.specs.Elimination.{back_row, back}
+use Rattle.linear.proofs.Turns.{DownLeft}
+use Rattle.solver.proofs.system.System.back_all.Given as goal
 
 abbrev pub invariant-loop-row : goal.invariant-loop-row
 invariant-loop-row g l =
@@ -12,5 +12,5 @@ invariant-loop-row g l =
     record {
       lender : l.self.work.ghost_name ≡ l.initial.self.work.ghost_name;
       unknowns : l.self.unknowns ≡ n;
-      left : Left (lose_row o n l.pivot) n l.row (map m l.self.work.now) (clear o n l.pivot w);
+      left : DownLeft (back_row o n) l.row (map m l.self.work.now) (back o n w);
     }

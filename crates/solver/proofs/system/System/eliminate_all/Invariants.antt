@@ -1,7 +1,7 @@
 use Rattle.std.proofs.Common.{◌≡◌, map}
 use Rattle.linear.specs.Elimination.{eliminate_column, eliminate}
 use Rattle.linear.proofs.Turns.{TriesLeft}
-use Rattle.solver.proofs.System.eliminate_all.Given as goal
+use Rattle.solver.proofs.system.System.eliminate_all.Given as goal
 
 abbrev pub invariant-loop-column : goal.invariant-loop-column
 invariant-loop-column g l =

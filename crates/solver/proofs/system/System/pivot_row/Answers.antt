@@ -3,7 +3,7 @@ use Rattle.std.proofs.lemmas.Iterator.{first_from_Range}
 use Rattle.arithmetic.specs.Ops.{may_divide}
 use Rattle.linear.specs.Elimination.{entry}
 use Rattle.solver.proofs.Law.{find_first}
-use Rattle.solver.proofs.System.pivot_row.Goals as goal
+use Rattle.solver.proofs.system.System.pivot_row.Goals as goal
 
 pub returns : goal.returns
 returns g c =

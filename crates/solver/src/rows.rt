@@ -1,0 +1,34 @@
+// Rows of a system, each in a list of its own.
+ghost use Rattle.std.specs.Prelude.{◌≡◌, ◌<◌, ◌≤◌, map, length};
+ghost use Rattle.linear.specs.Elimination.{lose_row};
+ghost use Rattle.solver.specs.Rows.{lose_all};
+
+use arithmetic::Arithmetic;
+use linear::{get, place};
+
+// The lower row loses factor × the upper one, from the pivot's column to the right side.
+#[tactic(auto, using(linear::proofs::Turns::turns, crate::proofs::Losing::entry_lost))]
+fn lose<N: Arithmetic>(upper: &[N], lower: &mut [N], factor: N, pivot: u32, unknowns: u32)
+    requires few { unknowns ≤ 15 }
+    requires upper { unknowns < length upper.now }
+    requires lower { unknowns < length lower.old }
+    ensures { map N.mean lower.new ≡ lose_all N.ops (map N.mean upper.now) (N.mean factor) unknowns pivot (map N.mean lower.old) }
+{
+    for column in pivot as usize..unknowns as usize + 1 {
+        lower[column] = lower[column].difference(factor.product(upper[column]));
+    }
+}
+
+// A row loses entry / pivot × the pivot's row, from the pivot's column to the right side.
+#[tactic(auto, using(crate::proofs::Losing::row_lost))]
+pub(crate) fn lose_row<N: Arithmetic>(work: &mut [N], unknowns: u32, pivot: u32, row: u32)
+    requires few { unknowns ≤ 15 }
+    requires room { 304 ≤ length work.old }
+    requires above { pivot < row }
+    requires within { row < unknowns }
+    ensures { map N.mean work.new ≡ lose_row N.ops unknowns pivot row (map N.mean work.old) }
+{
+    let factor = get(work, place(row, pivot)).quotient(get(work, place(pivot, pivot)));
+    let (above, below) = work.split_at_mut(place(row, 0));
+    lose(&above[place(pivot, 0)..], below, factor, pivot, unknowns);
+}
