@@ -5,14 +5,14 @@ use Rattle.std.specs.Prelude.{MatchOption, Option, Some, None}
 use Rattle.linear.specs.Loops.{first}
 use Rattle.linear.proofs.Loops.{First, first_is}
 use Rattle.arithmetic.specs.Ops.{Ops, Exact}
-use Rattle.linear.specs.Elimination.{solved}
+use Rattle.linear.specs.Elimination.{pivot_row, solved}
 use Rattle.linear.specs.Systems.{member, Solution, TrivialKernel, Singular, found}
 use Rattle.linear.specs.Inside.{Outside}
 use Rattle.linear.proofs.Theorem.{linear_systems}
 use Rattle.linear.proofs.Outside.{solved_stays}
 use Rattle.solver.specs.declared.Unsolved.{Unsolved}
 use Rattle.solver.specs.declared.Unsolved.TheVariants.{NoRoom, NoPivot}
-use Rattle.solver.specs.Answer.{fits, answered, answer, leaves, below}
+use Rattle.solver.specs.Answer.{fits, answered, answer, leaves, below, pivot}
 
 ok_both : (a b : Bool) → is_ok (answered a b) ≡ true → (a ≡ true) × (b ≡ true)
 ok_both false b e = cc
@@ -31,6 +31,13 @@ find_first p n i r h = go r h (first p (n - i) i) (first_is p (n - i) i)
         (t : ℕ) → First p (n - i) i t → r ≡ below n t
     go None h t f = let a = f.passes in let b = h t in grind (arith, common_steps)
     go (Some j) h t f = let a = f.passes in let b = f.before j in let d = h.3 t in grind (arith, common_steps)
+
+-- the row that it names is none above the column's own
+pub pivot_from : {M : Type 0} (o : Ops M) (n c j : ℕ) (w : List M) (r : Option ℕ) → r ≡ pivot o n c w → r ≡ Some j → c ≤ j
+pivot_from o n c j w r e s = go (pivot_row o n c w) (first_is _ (n - c) c).from (sym e ∙ s)
+  where
+    go : (t : ℕ) → c ≤ t → below n t ≡ Some j → c ≤ j
+    go t f h = grind (arith, common_steps)
 
 pivot_both : (a b : Bool) → answered a b ≡ Err NoPivot → (a ≡ true) × (b ≡ false)
 pivot_both false b e = cc

@@ -1,2 +1,3 @@
 pub mod Law
 pub mod Losing
+pub mod Swapping

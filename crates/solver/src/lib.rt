@@ -2,7 +2,7 @@
 #![tactic(auto, using(linear::proofs::Turns::turns))]
 
 ghost use Rattle.std.specs.Prelude.{◌≡◌, ℕ, ◌<◌, ◌≤◌, true, T, map, length, is_ok, Err, slice_set};
-ghost use Rattle.linear.specs.Elimination.{cell, entry, clear, swap_entry, swap_rows, eliminate_column, eliminate, lose_found, divide, back_row, back, solved};
+ghost use Rattle.linear.specs.Elimination.{cell, entry, clear, eliminate_column, eliminate, lose_found, divide, back_row, back, solved};
 ghost use Rattle.linear.specs.Inside.{Outside};
 ghost use Rattle.linear.specs.Systems.{member, Solution, TrivialKernel, Singular, found};
 ghost use Rattle.solver.specs.System.{Becomes};
@@ -11,7 +11,7 @@ ghost use Rattle.solver.specs.Answer.{fits, answered, answer, leaves, pivot};
 mod rows;
 mod system;
 
-use crate::rows::lose_row;
+use crate::rows::{lose_row, swap_rows};
 use crate::system::System;
 use arithmetic::{Arithmetic, may_divide};
 use linear::{get, place, put};
@@ -54,25 +54,6 @@ impl<N: Arithmetic> System<'_, N> {
         }
     }
 
-    // Two rows' entries in a column change places.
-    fn swap_entry(&mut self, upper: u32, lower: u32, column: u32)
-        ensures { Becomes N.mean (swap_entry N.ops upper lower column) self.old self.new }
-    {
-        let above = self.read(upper, column);
-        let below = self.read(lower, column);
-        self.write(upper, column, below);
-        self.write(lower, column, above);
-    }
-
-    // Two whole rows change places, their right sides too.
-    fn swap_rows(&mut self, upper: u32, lower: u32)
-        ensures { Becomes N.mean (swap_rows N.ops self.old.unknowns upper lower) self.old self.new }
-    {
-        for column in 0..=self.unknowns {
-            self.swap_entry(upper, lower, column);
-        }
-    }
-
     // The first row at or below a column's own whose entry may be divided by.
     fn pivot_row(&self, column: u32) -> Option<u32>
         ensures { result ≡ pivot N.ops self.now.unknowns column (map N.mean self.now.work.now) }
@@ -81,12 +62,13 @@ impl<N: Arithmetic> System<'_, N> {
     }
 
     // Swaps the pivot's row up and clears the rows below. Nothing changes where the column has no pivot.
+    #[tactic(auto, using(crate::proofs::Law::pivot_from))]
     fn eliminate_column(&mut self, column: u32) -> Result<(), Unsolved>
         ensures answer { result ≡ answered true (eliminate_column N.ops self.old.unknowns column (map N.mean self.old.work.now)).ok }
         ensures left { Becomes N.mean (λ w. (eliminate_column N.ops self.old.unknowns column w).left) self.old self.new }
     {
         let pivot = self.pivot_row(column).ok_or(Unsolved::NoPivot)?;
-        self.swap_rows(column, pivot);
+        swap_rows(self.work, self.unknowns, column, pivot);
         self.clear_below(column);
         Ok(())
     }
