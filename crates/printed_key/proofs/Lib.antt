@@ -11,5 +11,6 @@ pub mod Picking
 pub mod Refusing
 pub mod Rowing
 pub mod Stepping
+pub mod Tables
 pub mod Taking
 pub mod Wording

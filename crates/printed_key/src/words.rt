@@ -1,11 +1,49 @@
-// The members of a line, each with the space before it.
-ghost use Rattle.std.specs.Prelude.{Some};
-ghost use Rattle.printed_key.specs.Blocks.{member_words, signed_words};
+// The members of a line, each with the space before it. The numbers below 32 stand ready as text, since the library's
+// formatting of one number costs as much as working out a sign.
+ghost use Rattle.std.specs.Prelude.{◌≡◌, ◌<◌, ◌∷◌, Some, decimal};
+ghost use Rattle.printed_key.specs.Blocks.{member_words, sided, signed_words};
 ghost use Rattle.printed_key.specs.Text.{spaced, listed};
 
 use sheet::Shown;
 use std::fmt;
 use networks::has;
+
+// The numbers below 32 behind a space, a plus and a minus.
+const PLAIN: [&str; 32] = [
+    " 0", " 1", " 2", " 3", " 4", " 5", " 6", " 7", " 8", " 9", " 10", " 11", " 12", " 13", " 14",
+    " 15", " 16", " 17", " 18", " 19", " 20", " 21", " 22", " 23", " 24", " 25", " 26", " 27",
+    " 28", " 29", " 30", " 31",
+];
+
+const PLUS: [&str; 32] = [
+    " +0", " +1", " +2", " +3", " +4", " +5", " +6", " +7", " +8", " +9", " +10", " +11", " +12",
+    " +13", " +14", " +15", " +16", " +17", " +18", " +19", " +20", " +21", " +22", " +23", " +24",
+    " +25", " +26", " +27", " +28", " +29", " +30", " +31",
+];
+
+const MINUS: [&str; 32] = [
+    " -0", " -1", " -2", " -3", " -4", " -5", " -6", " -7", " -8", " -9", " -10", " -11", " -12",
+    " -13", " -14", " -15", " -16", " -17", " -18", " -19", " -20", " -21", " -22", " -23", " -24",
+    " -25", " -26", " -27", " -28", " -29", " -30", " -31",
+];
+
+fn place(k: u32) -> &'static str
+    requires { k < 32 }
+    ensures { result.now ≡ 32 ∷ decimal k }
+{
+    PLAIN[k as usize]
+}
+
+fn signed_place(k: u32, against: bool) -> &'static str
+    requires { k < 32 }
+    ensures { result.now ≡ 32 ∷ sided against k }
+{
+    if against {
+        MINUS[k as usize]
+    } else {
+        PLUS[k as usize]
+    }
+}
 
 // The members of a word, as ` 0 2`.
 #[derive(Clone, Copy)]
@@ -17,7 +55,7 @@ impl fmt::Display for Members {
     fn fmt<W: fmt::Write>(&self, f: &mut fmt::Formatter<W>) -> fmt::Result {
         for k in 0..32 {
             if has(self.0, k) {
-                write!(f, " {k}")?;
+                f.write_str(place(k))?;
             }
         }
         Ok(())
@@ -34,8 +72,7 @@ impl fmt::Display for Signed {
     fn fmt<W: fmt::Write>(&self, f: &mut fmt::Formatter<W>) -> fmt::Result {
         for k in 0..32 {
             if has(self.0.members, k) {
-                let sign = if has(self.0.against, k) { "-" } else { "+" };
-                write!(f, " {sign}{k}")?;
+                f.write_str(signed_place(k, has(self.0.against, k)))?;
             }
         }
         Ok(())

@@ -3,7 +3,7 @@ use Rattle.printed_key.specs.Blocks.{member_words}
 use Rattle.printed_key.specs.Text.{spaced, listed}
 use Rattle.printed_key.proofs.Adding.{more_written, nothing_written}
 use Rattle.printed_key.proofs.words.MembersDisplay.fmt.Goals as goal
-use Rattle.printed_key.proofs.words.MembersDisplay.fmt.Goals.{then-has+in_ok-write, else-has}
+use Rattle.printed_key.proofs.words.MembersDisplay.fmt.Goals.{then-has+in_ok-write_str, else-has}
 
 pub loop-k-init : goal.loop-k-init
 unfolding spaced listed
@@ -13,4 +13,4 @@ pub loop-k-preserved : goal.loop-k-preserved
 unfolding spaced
 loop-k-preserved g c p =
     more_written _ (member_words c.args.self.now.0) _ _ _ _ (c.loop-k.invariant p)
-    (elim c.if-has.branch [ then-has+in_ok-write w ↦ search rules | else-has w ↦ search rules ])
+    (elim c.if-has.branch [ then-has+in_ok-write_str w ↦ search rules | else-has w ↦ search rules ])

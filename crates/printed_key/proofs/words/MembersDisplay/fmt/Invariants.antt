@@ -5,4 +5,4 @@ use Rattle.printed_key.proofs.words.MembersDisplay.fmt.Given as goal
 
 abbrev pub invariant-loop-k : goal.invariant-loop-k
 invariant-loop-k g l =
-    IsPlainFormatter l.initial.f → HasWritten g.W.Write.write_str_gives l.initial.f (spaced (listed (member_words l.self.0) l.k-counter)) l.f
+    IsPlainFormatter l.initial.f → HasWritten g.W.Write.write_str_gives l.initial.f (spaced (listed (member_words l.self.0) l.k)) l.f

@@ -3,7 +3,7 @@ use Rattle.printed_key.specs.Blocks.{signed_words}
 use Rattle.printed_key.specs.Text.{spaced, listed}
 use Rattle.printed_key.proofs.Adding.{more_written, nothing_written}
 use Rattle.printed_key.proofs.words.SignedDisplay.fmt.Goals as goal
-use Rattle.printed_key.proofs.words.SignedDisplay.fmt.Goals.{then-has+in_ok-write, then-has-2, else-has-2, else-has}
+use Rattle.printed_key.proofs.words.SignedDisplay.fmt.Goals.{then-has+in_ok-write_str, else-has}
 
 pub loop-k-init : goal.loop-k-init
 unfolding spaced listed
@@ -13,4 +13,4 @@ pub loop-k-preserved : goal.loop-k-preserved
 unfolding spaced
 loop-k-preserved g c p =
     more_written _ (signed_words c.args.self.now.0) _ _ _ _ (c.loop-k.invariant p)
-    (elim c.if-has.branch [ then-has+in_ok-write w ↦ (elim w.if-has-2.branch [ then-has-2 w' ↦ search rules | else-has-2 w' ↦ search rules ]) | else-has w ↦ search rules ])
+    (elim c.if-has.branch [ then-has+in_ok-write_str w ↦ search rules | else-has w ↦ search rules ])
