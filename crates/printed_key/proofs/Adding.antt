@@ -1,8 +1,5 @@
 -- What is added to a text, piece by piece.
 use Rattle.std.proofs.Common.{◌≡◌, ℕ, ◌+◌, List, [], ◌∷◌, ◌++◌, Ok, Err, Result, OnOk, codes, sym, refl, ap, ◌∙◌, subst, append_assoc, append-nil, add-one}
-use Rattle.std.specs.declared.fmt.Formatter.{Formatter}
-use Rattle.std.specs.Fmt.{HasWritten, IsPlainFormatter}
-use Rattle.std.proofs.Output.{writes_in_calls_nil, has_written_append, has_written_of_eq}
 use Rattle.printed_key.specs.declared.stop.Stop.{Stop}
 use Rattle.printed_key.specs.Blocks.{stop_words, stop_line}
 use Rattle.printed_key.specs.Text.{Word, spaced, Line, line_text, text_of, listed, Adds}
@@ -10,11 +7,6 @@ use Rattle.printed_key.specs.Text.{Word, spaced, Line, line_text, text_of, liste
 pub one_word : (w : Word) → 32 ∷ w ≡ spaced (w ∷ [])
 unfolding spaced
 one_word w = ap (λ b. 32 ∷ b) (sym (append-nil w))
-
-pub spaced_more : (xs ys : List Word) → spaced (xs ++ ys) ≡ spaced xs ++ spaced ys
-unfolding spaced
-spaced_more [] ys = refl
-spaced_more (x ∷ xs) ys = ap (λ b. 32 ∷ b) (ap (λ b. x ++ b) (spaced_more xs ys) ∙ sym (append_assoc x (spaced xs) (spaced ys)))
 
 pub text_more : (xs ys : List Line) → text_of (xs ++ ys) ≡ text_of xs ++ text_of ys
 unfolding text_of
@@ -74,14 +66,3 @@ adds_then (Err y) a b t xs ys e h = tt
 
 pub adds_same : {X E : Type 0} (r : Result X E) (a t b c : List ℕ) → b ≡ c → Adds r a t b → Adds r a t c
 adds_same r a t b c e h = subst (λ x. Adds r a t x) e h
-
--- the words written so far, and those of the next number
-pub more_written :
-    {W : Type 0} (took : W → List ℕ → W → Type 0) (words : ℕ → List Word) (k : ℕ) (f g h : Formatter W) →
-    HasWritten took f (spaced (listed words k)) g → HasWritten took g (spaced (words k)) h → HasWritten took f (spaced (listed words (k + 1))) h
-more_written took words k f g h p q =
-    has_written_of_eq took _ _ _ _ (sym (spaced_more (listed words k) (words k)) ∙ ap spaced (sym (listed_next words k)))
-    (has_written_append took _ _ _ _ _ p q)
-
-pub nothing_written : {W : Type 0} (took : W → List ℕ → W → Type 0) (f : Formatter W) → IsPlainFormatter f → HasWritten took f [] f
-nothing_written took f p = record { wrote = writes_in_calls_nil took _; plain = p }

@@ -4,6 +4,7 @@ pub mod Emptying
 pub mod Figuring
 pub mod Keying
 pub mod Lines
+pub mod Listing
 pub mod Looking
 pub mod Networking
 pub mod Parting

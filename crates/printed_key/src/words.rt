@@ -1,14 +1,14 @@
-// The members of a line, each with the space before it. The numbers below 32 stand ready as text, since the library's
-// formatting of one number costs as much as working out a sign.
+// The members of a line, each with the space before it. Each number that can be one stands ready as text, which is quicker
+// than to format it at every member.
 ghost use Rattle.std.specs.Prelude.{◌≡◌, ◌<◌, ◌∷◌, Some, decimal};
 ghost use Rattle.printed_key.specs.Blocks.{member_words, sided, signed_words};
 ghost use Rattle.printed_key.specs.Text.{spaced, listed};
 
 use sheet::Shown;
 use std::fmt;
-use networks::has;
+use networks::{has, members_of};
 
-// The numbers below 32 behind a space, a plus and a minus.
+// Each number behind a space, behind a plus, and behind a minus.
 const PLAIN: [&str; 32] = [
     " 0", " 1", " 2", " 3", " 4", " 5", " 6", " 7", " 8", " 9", " 10", " 11", " 12", " 13", " 14",
     " 15", " 16", " 17", " 18", " 19", " 20", " 21", " 22", " 23", " 24", " 25", " 26", " 27",
@@ -27,6 +27,7 @@ const MINUS: [&str; 32] = [
     " -25", " -26", " -27", " -28", " -29", " -30", " -31",
 ];
 
+// ` 7`.
 fn place(k: u32) -> &'static str
     requires { k < 32 }
     ensures { result.now ≡ 32 ∷ decimal k }
@@ -34,6 +35,7 @@ fn place(k: u32) -> &'static str
     PLAIN[k as usize]
 }
 
+// ` +7`, or ` -7` where the member points against the row.
 fn signed_place(k: u32, against: bool) -> &'static str
     requires { k < 32 }
     ensures { result.now ≡ 32 ∷ sided against k }
@@ -53,10 +55,8 @@ impl fmt::Display for Members {
     ghost output = { λ m. Some (spaced (listed (member_words m.0) 32)) };
 
     fn fmt<W: fmt::Write>(&self, f: &mut fmt::Formatter<W>) -> fmt::Result {
-        for k in 0..32 {
-            if has(self.0, k) {
-                f.write_str(place(k))?;
-            }
+        for k in members_of(self.0) {
+            f.write_str(place(k))?;
         }
         Ok(())
     }
@@ -70,10 +70,8 @@ impl fmt::Display for Signed {
     ghost output = { λ s. Some (spaced (listed (signed_words s.0) 32)) };
 
     fn fmt<W: fmt::Write>(&self, f: &mut fmt::Formatter<W>) -> fmt::Result {
-        for k in 0..32 {
-            if has(self.0.members, k) {
-                f.write_str(signed_place(k, has(self.0.against, k)))?;
-            }
+        for k in members_of(self.0.members) {
+            f.write_str(signed_place(k, has(self.0.against, k)))?;
         }
         Ok(())
     }

@@ -1,16 +1,17 @@
-use Rattle.std.proofs.Common.{rules}
-use Rattle.printed_key.specs.Blocks.{signed_words}
-use Rattle.printed_key.specs.Text.{spaced, listed}
-use Rattle.printed_key.proofs.Adding.{more_written, nothing_written}
+use Rattle.std.proofs.Common.{rules, sym}
+use Rattle.topology.specs.Words.{bits}
+use Rattle.topology.proofs.Firsts.{first_member}
+use Rattle.printed_key.proofs.Listing.{word_in, lowest_written, all_written}
 use Rattle.printed_key.proofs.words.SignedDisplay.fmt.Goals as goal
-use Rattle.printed_key.proofs.words.SignedDisplay.fmt.Goals.{then-has+in_ok-write_str, else-has}
 
-pub loop-k-init : goal.loop-k-init
-unfolding spaced listed
-loop-k-init g c p = nothing_written _ _ p
+pub signed_place-requires : goal.signed_place-requires
+signed_place-requires g c = (first_member (bits c.loop-k.k-iterator.left) 0 32 c.in-Some.k (sym c.in-Some.ensures.steps.0)).1
 
 pub loop-k-preserved : goal.loop-k-preserved
-unfolding spaced
 loop-k-preserved g c p =
-    more_written _ (signed_words c.args.self.now.0) _ _ _ _ (c.loop-k.invariant p)
-    (elim c.if-has.branch [ then-has+in_ok-write_str w ↦ search rules | else-has w ↦ search rules ])
+    let left = bits c.loop-k.k-iterator.left in
+    let took = c.in-Some.ensures.steps in
+    lowest_written _ (word_in c.args.self.now.0) _ _ _ left _ c.in-Some.k _ (c.loop-k.invariant p) took.0 took.1 (search rules)
+
+pub returns-clause-writes : goal.returns-clause-writes
+returns-clause-writes g c p e = all_written _ (word_in c.args.self.now.0) _ _ _ (bits c.loop-k.k-iterator.left) (c.loop-k.invariant p) c.in-None.ensures.steps.0

@@ -1,8 +1,7 @@
-use Rattle.std.specs.Fmt.{HasWritten, IsPlainFormatter}
-use Rattle.printed_key.specs.Blocks.{signed_words}
-use Rattle.printed_key.specs.Text.{spaced, listed}
+use Rattle.std.specs.Fmt.{IsPlainFormatter}
+use Rattle.topology.specs.Words.{bits}
+use Rattle.printed_key.proofs.Listing.{word_in, Remains}
 use Rattle.printed_key.proofs.words.SignedDisplay.fmt.Given as goal
 
 abbrev pub invariant-loop-k : goal.invariant-loop-k
-invariant-loop-k g l =
-    IsPlainFormatter l.initial.f → HasWritten g.W.Write.write_str_gives l.initial.f (spaced (listed (signed_words l.self.0) l.k)) l.f
+invariant-loop-k g l = IsPlainFormatter l.initial.f → Remains g.W.Write.write_str_gives (word_in l.self.0) l.initial.f l.f (bits l.self.0.members) (bits l.k-iterator.left)
