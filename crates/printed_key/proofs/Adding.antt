@@ -44,6 +44,10 @@ pub word_before : (w : Word) (bs : List ℕ) (ws : List Word) → bs ≡ spaced 
 unfolding spaced
 word_before w bs ws e = ap (λ b. 32 ∷ (w ++ b)) e ∙ ap (λ b. 32 ∷ b) (sym (append_assoc w (spaced ws) (10 ∷ [])))
 
+-- a text that holds the space and the word
+pub text_before : (t w : Word) (bs : List ℕ) (ws : List Word) → t ≡ 32 ∷ w → bs ≡ spaced ws ++ (10 ∷ []) → t ++ bs ≡ spaced (w ∷ ws) ++ (10 ∷ [])
+text_before t w bs ws e h = ap (λ x. x ++ bs) e ∙ word_before w bs ws h
+
 pub line_added : (a t name bs : List ℕ) (ws : List Word) → t ≡ a ++ (name ++ bs) → bs ≡ spaced ws ++ (10 ∷ []) → t ≡ a ++ text_of (record { name = name; words = ws } ∷ [])
 unfolding text_of line_text
 line_added a t name bs ws e h = e ∙ ap (λ b. a ++ (name ++ b)) h ∙ ap (λ b. a ++ b) (sym (append-nil (name ++ (spaced ws ++ (10 ∷ [])))))

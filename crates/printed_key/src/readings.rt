@@ -5,6 +5,7 @@ ghost use Rattle.printed_key.specs.Text.{Adds, text_of};
 ghost use Rattle.sheet.specs.Refusals.{told};
 
 use crate::stop::Stop;
+use crate::words::place;
 use arithmetic::Arithmetic;
 use figures::reading;
 use sheet::{Plan, Refusal, Row};
@@ -52,7 +53,7 @@ fn push_voltages(text: &mut String, readings: &[Option<i32>; 32]) -> Result<(), 
 {
     for (k, reading) in readings.iter().enumerate() {
         if let Some(reading) = *reading {
-            writeln!(text, "mv {k} {reading}")?;
+            writeln!(text, "mv{} {reading}", place(k as u32))?;
         }
     }
     Ok(())

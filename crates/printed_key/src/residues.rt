@@ -7,6 +7,7 @@ ghost use Rattle.sheet.specs.Meanings.{meant_sheet};
 
 use crate::card_sheet::{CardSheet, read_sheet};
 use crate::stop::Stop;
+use crate::words::place;
 use arithmetic::{Arithmetic, remainder_of};
 use std::alloc::AllocError;
 use stepping::step;
@@ -35,7 +36,7 @@ fn push_remainders(text: &mut String, sheet: &CardSheet<u16>) -> Result<(), Allo
         if let Some(look) = sheet.plan.look(&sheet.rows, k) {
             let current = remainder_of(look.current);
             let voltage = remainder_of(look.voltage);
-            writeln!(text, "res {k} {current} {voltage}")?;
+            writeln!(text, "res{} {current} {voltage}", place(k))?;
         }
     }
     Ok(())

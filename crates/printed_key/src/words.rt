@@ -27,15 +27,15 @@ const MINUS: [&str; 32] = [
     " -25", " -26", " -27", " -28", " -29", " -30", " -31",
 ];
 
-// ` 7`.
-fn place(k: u32) -> &'static str
+// A place behind a space, as ` 7`.
+pub(crate) fn place(k: u32) -> &'static str
     requires { k < 32 }
     ensures { result.now ≡ 32 ∷ decimal k }
 {
     PLAIN[k as usize]
 }
 
-// ` +7`, or ` -7` where the member points against the row.
+// A member of a row, as ` +7`, or ` -7` where it points against the row.
 fn signed_place(k: u32, against: bool) -> &'static str
     requires { k < 32 }
     ensures { result.now ≡ 32 ∷ sided against k }

@@ -9,4 +9,4 @@ use Rattle.printed_key.proofs.residues.push_remainders.Given as goal
 abbrev pub invariant-loop-k : goal.invariant-loop-k
 invariant-loop-k l =
     string_bytes l.text
-    ≡ string_bytes l.initial.text ++ text_of (listed (λ k. remainder_line k (seen (residue 0) l.sheet.plan (map (meant_row residue) l.sheet.rows) k)) l.k-counter)
+    ≡ string_bytes l.initial.text ++ text_of (listed (λ k. remainder_line k (seen (residue 0) l.sheet.plan (map (meant_row residue) l.sheet.rows) k)) l.k)
