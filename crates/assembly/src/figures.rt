@@ -2,7 +2,7 @@
 // and for a place below 32 where figures of all places are read, which are known up to there. Figures stand in arrays of
 // 32, the places of a plan, since a step asks for no memory.
 ghost use Rattle.std.specs.Prelude.{◌≡◌, ℕ, ◌<◌, true, map, length};
-ghost use Rattle.assembly.specs.Figures.{all, in_use, found, link_voltage, Filled};
+ghost use Rattle.assembly.specs.Figures.{all, in_use, voltage_at, found, link_voltage, Filled};
 ghost use Rattle.assembly.specs.Frames.{Frames, Holds, Levels, levels_of};
 ghost use Rattle.stories.specs.Assembly.{Parts};
 ghost use Rattle.stories.specs.Steps.{tree_voltage, voltage_of, flow_of, current_of};
@@ -58,9 +58,10 @@ impl<'a, N: Arithmetic> Setting<'a, N> {
         from_fn(|k| self.flow_of(voltages, k as u32))
     }
 
-    // The voltage of every branch, by place, from the area of the solved system of so many unknowns.
+    // The voltage of every branch, by place, from the area of the solved system of so many unknowns; zero where there is no
+    // branch.
     pub fn branch_voltages(&self, unknowns: u32) -> [N; 32]
-        ensures { (c : Parts N.Meaning) → Frames c self.now.frame.now → Levels c (levels_of N.ops N.mean self.now.rows.now) → Filled N.ops (in_use c) (voltage_of N.ops c (found N.ops (map N.mean self.now.area.now) unknowns)) 32 (map N.mean result) }
+        ensures { (c : Parts N.Meaning) → Frames c self.now.frame.now → Levels c (levels_of N.ops N.mean self.now.rows.now) → Filled N.ops all (voltage_at N.ops c (found N.ops (map N.mean self.now.area.now) unknowns)) 32 (map N.mean result) }
     {
         let tree = self.tree_voltages(unknowns);
         voltages_of(self.frame, &tree)
@@ -91,7 +92,7 @@ fn link_voltage<N: Arithmetic>(frame: &Frame, tree: &[N], k: u32) -> N
 // The voltage of a branch; zero where there is none.
 fn voltage_of<N: Arithmetic>(frame: &Frame, tree: &[N], k: u32) -> N
     requires { k < 32 }
-    ensures { (c : Parts N.Meaning) (x : ℕ → N.Meaning) → Frames c frame.now → Filled N.ops all (tree_voltage c x) 32 (map N.mean tree.now) → in_use c k ≡ true → N.mean result ≡ voltage_of N.ops c x k }
+    ensures { (c : Parts N.Meaning) (x : ℕ → N.Meaning) → Frames c frame.now → Filled N.ops all (tree_voltage c x) 32 (map N.mean tree.now) → N.mean result ≡ voltage_at N.ops c x k }
 {
     if has(frame.tree, k) {
         get(tree, k as usize)
@@ -103,7 +104,7 @@ fn voltage_of<N: Arithmetic>(frame: &Frame, tree: &[N], k: u32) -> N
 }
 
 fn voltages_of<N: Arithmetic>(frame: &Frame, tree: &[N]) -> [N; 32]
-    ensures { (c : Parts N.Meaning) (x : ℕ → N.Meaning) → Frames c frame.now → Filled N.ops all (tree_voltage c x) 32 (map N.mean tree.now) → Filled N.ops (in_use c) (voltage_of N.ops c x) 32 (map N.mean result) }
+    ensures { (c : Parts N.Meaning) (x : ℕ → N.Meaning) → Frames c frame.now → Filled N.ops all (tree_voltage c x) 32 (map N.mean tree.now) → Filled N.ops all (voltage_at N.ops c x) 32 (map N.mean result) }
 {
     from_fn(|k| voltage_of(frame, tree, k as u32))
 }
