@@ -1,15 +1,15 @@
 -- The figures of a step, from each of their cases. Assumes nothing.
-use Rattle.std.proofs.Common.{◌≡◌, ℕ, ◌<◌, Bool, true, false, cond, ◌||◌, List, get_or, sym, refl, ap, ◌∙◌}
+use Rattle.std.proofs.Common.{◌≡◌, ℕ, ◌<◌, Bool, true, false, ◌||◌, List, get_or, sym, refl, ap, ◌∙◌}
 use Rattle.std.proofs.lemmas.Bool.{cond-true, cond-false, or_right}
 use Rattle.arithmetic.specs.Ops.{Ops}
 use Rattle.graphs.specs.Graph.{◌∈◌}
 use Rattle.graphs.specs.Cuts.{turned}
 use Rattle.stories.specs.Assembly.{Parts}
-use Rattle.stories.specs.Steps.{tree_voltage, voltage_of, flow_of, current_of}
+use Rattle.stories.specs.Steps.{voltage_of, flow_of, current_of}
 use Rattle.networks.specs.Words.{bits}
 use Rattle.assembly.specs.declared.frame.Frame.{Frame}
 use Rattle.assembly.specs.Frames.{gathered, Frames}
-use Rattle.assembly.specs.Figures.{all, in_use, voltage_at, link_voltage, Filled}
+use Rattle.assembly.specs.Figures.{all, in_use, voltage_at, Filled}
 
 -- the current of a voltage source, from what the links of its cut leave
 pub current_fixed : {M : Type 0} (o : Ops M) (c : Parts M) (x : ℕ → M) (k : ℕ) → c.fixed k ≡ true → gathered o c.link (λ j. turned (c.row k j)) (flow_of o c x) o.nought ≡ current_of o c x k
@@ -17,27 +17,6 @@ unfolding current_of gathered
 current_fixed o c x k is_fixed = sym (cond-true _ _ _ is_fixed)
 
 module _ {M : Type 0} (o : Ops M) (c : Parts M) (f : Frame) (fr : Frames c f) (x : ℕ → M) where
-  whole : (k : ℕ) → cond (c.tree k) (tree_voltage c x k) (link_voltage o c x k) ≡ voltage_of o c x k
-  unfolding voltage_of link_voltage
-  whole k = refl
-
-  in_tree : (k : ℕ) (b : Bool) → bits f.tree k ≡ b → c.tree k ≡ b
-  in_tree k b m = sym (ap (λ S. S k) fr.tree) ∙ m
-
-  in_link : (k : ℕ) (b : Bool) → bits f.link k ≡ b → c.link k ≡ b
-  in_link k b m = sym (ap (λ S. S k) fr.link) ∙ m
-
-  pub voltage_tree : (k : ℕ) → bits f.tree k ≡ true → tree_voltage c x k ≡ voltage_at o c x k
-  voltage_tree k m =
-      let t = in_tree k true m in
-      sym (cond-true _ _ _ t) ∙ whole k ∙ sym (cond-true _ _ _ (ap (λ b. b || c.link k) t))
-
-  pub voltage_link : (k : ℕ) → bits f.tree k ≡ false → bits f.link k ≡ true → link_voltage o c x k ≡ voltage_at o c x k
-  voltage_link k m l = sym (cond-false _ _ _ (in_tree k false m)) ∙ whole k ∙ sym (cond-true _ _ _ (or_right (c.tree k) (c.link k) (in_link k true l)))
-
-  pub voltage_none : (k : ℕ) → bits f.tree k ≡ false → bits f.link k ≡ false → o.nought ≡ voltage_at o c x k
-  voltage_none k m l = sym (cond-false _ _ _ (ap (λ b. b || c.link k) (in_tree k false m) ∙ in_link k false l))
-
   -- what is in use is a branch of the tree or a link
   used_in : (k : ℕ) (a b : Bool) → c.fixed k ≡ a → c.tree k ≡ b → k ∈ in_use c → (c.tree k || c.link k) ≡ true
   used_in k a true e d u = ap (λ b. b || c.link k) d

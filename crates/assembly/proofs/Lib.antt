@@ -1,8 +1,8 @@
 pub mod Turns
-pub mod Reading
-pub mod Overs
 pub mod Members
+pub mod Reading
 pub mod Framing
 pub mod Filling
-pub mod Making
+pub mod Touching
+pub mod Linking
 pub mod Counting

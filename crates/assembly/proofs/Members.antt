@@ -1,6 +1,6 @@
--- Sums over the members of a word, lowest first. Assumes nothing.
+-- Loops over the members of a word, lowest first. Assumes nothing.
 use Rattle.std.proofs.Common.{◌≡◌, ℕ, zero, suc, ◌<◌, Bool, true, false, cond, not, ◌&&◌, ◌||◌, eqb, ◌⊎◌, Some, None, sym, refl, ap, ◌∙◌, inl, inr, arith}
-use Rattle.std.proofs.lemmas.Bool.{cond-true, cond-false, cases_eq, ne_eqb, eq-eqb, and_right}
+use Rattle.std.proofs.lemmas.Bool.{cond-true, cond-false, cases_eq, ne_eqb, eq-eqb, and_parts, and_right}
 use mathlib.Core.Bool.{and-true}
 use Rattle.sheet.specs.declared.refusal.Shown.{Shown}
 use Rattle.arithmetic.specs.Ops.{Ops}
@@ -10,49 +10,70 @@ use Rattle.networks.specs.Words.{bits, first}
 use Rattle.networks.proofs.Firsts.{first_member, first_lowest, first-none}
 use Rattle.stories.specs.Assembly.{through, taken}
 use Rattle.assembly.specs.Frames.{gathered}
-use Rattle.assembly.proofs.Reading.{turn}
 
-module _ {M : Type 0} (o : Ops M) (s : ℕ → Sign) (x : ℕ → M) where
+module _ {W : Type 0} (f : ℕ → W → W) where
+  -- the turn of a number that is a member
+  abbrev pub turn : Set → ℕ → W → W
+  turn S k a = cond (S k) (f k a) a
+
   -- turns without a member
-  no_turns : (S : Set) (n : ℕ) (a : M) → ((j : ℕ) → j < n → S j ≡ false) → through (turn o S s x) n a ≡ a
+  no_turns : (S : Set) (n : ℕ) (a : W) → ((j : ℕ) → j < n → S j ≡ false) → through (turn S) n a ≡ a
   unfolding through
   no_turns S zero a h = refl
   no_turns S (suc n) a h = cond-false (S n) _ _ (h n (omega arith)) ∙ no_turns S n a (λ j l. h j (omega arith))
 
   -- turns from the lowest member on
-  turns_from : (S : Set) (k n : ℕ) (a : M) → k ∈ S → ((j : ℕ) → j < k → S j ≡ false) → k < n
-      → through (turn o S s x) n a ≡ through (turn o (without S k) s x) n (taken o (s k) (x k) a)
+  turns_from : (S : Set) (k n : ℕ) (a : W) → k ∈ S → ((j : ℕ) → j < k → S j ≡ false) → k < n
+      → through (turn S) n a ≡ through (turn (without S k)) n (f k a)
   unfolding through
   turns_from S k zero a m low l = absurd (omega arith)
   turns_from S k (suc n) a m low l = go (cases_eq n k) (turns_from S k n a m low)
     where
-      b : M
-      b = taken o (s k) (x k) a
-
       outside : (j : ℕ) → S j ≡ false → without S k j ≡ false
       outside j e = ap (λ t. t && not (eqb j k)) e
 
-      go : (n ≡ k) ⊎ (n ≡ k → ⊥) → (k < n → through (turn o S s x) n a ≡ through (turn o (without S k) s x) n b) → turn o S s x n (through (turn o S s x) n a) ≡ turn o (without S k) s x n (through (turn o (without S k) s x) n b)
+      go : (n ≡ k) ⊎ (n ≡ k → ⊥) → (k < n → through (turn S) n a ≡ through (turn (without S k)) n (f k a)) → turn S n (through (turn S) n a) ≡ turn (without S k) n (through (turn (without S k)) n (f k a))
       go (inl e) ih =
           cond-true (S n) _ _ (ap S e ∙ m)
-          ∙ ap (λ (w : M). taken o (s n) (x n) w) (no_turns S n a (λ j i. low j (omega arith)))
-          ∙ ap (λ (j : ℕ). taken o (s j) (x j) a) e
-          ∙ sym (no_turns (without S k) n b (λ j i. outside j (low j (omega arith))))
+          ∙ ap (f n) (no_turns S n a (λ j i. low j (omega arith)))
+          ∙ ap (λ (j : ℕ). f j a) e
+          ∙ sym (no_turns (without S k) n (f k a) (λ j i. outside j (low j (omega arith))))
           ∙ sym (cond-false (without S k n) _ _ (and_right (S n) _ (ap not (eq-eqb n k e))))
       go (inr ne) ih =
           let same : without S k n ≡ S n = ap (λ t. S n && not t) (ne_eqb n k ne) ∙ and-true (S n) in
-          ap (λ (w : M). turn o S s x n w) (ih (omega arith))
-          ∙ ap (λ t. cond t (taken o (s n) (x n) (through (turn o (without S k) s x) n b)) (through (turn o (without S k) s x) n b)) (sym same)
+          ap (turn S n) (ih (omega arith))
+          ∙ ap (λ t. cond t (f n (through (turn (without S k)) n (f k a))) (through (turn (without S k)) n (f k a))) (sym same)
 
-  pub gathered_lowest : (S : Set) (k : ℕ) (a : M) → Some k ≡ first S → gathered o S s x a ≡ gathered o (without S k) s x (taken o (s k) (x k) a)
-  unfolding gathered
-  gathered_lowest S k a f =
-      let found = first_member S 0 32 k (sym f) in
-      turns_from S k 32 a found.0 (λ j l. first_lowest S 0 32 k j (sym f) (omega arith) l) found.1
+  -- a loop over the members of S, of which R is left: these make of what stands now what all make of what stood first
+  pub record Going (S R : Set) (old now : W) : Type 0 where
+    pub within : (k : ℕ) → k ∈ R → k ∈ S
+    pub same : through (turn R) 32 now ≡ through (turn S) 32 old
 
-  pub gathered_none : (S : Set) (a : M) → None ≡ first S → gathered o S s x a ≡ a
-  unfolding gathered
-  gathered_none S a f = no_turns S 32 a (λ j l. first-none S 0 32 j (sym f) (omega arith) l)
+  pub begun : (S R : Set) (a b : W) → R ≡ S → a ≡ b → Going S R a b
+  begun S R a b e d = record { within = λ k m. sym (ap (λ T. T k) e) ∙ m; same = ap (λ T. through (turn T) 32 b) e ∙ ap (through (turn S) 32) (sym d) }
+
+  pub taken_in : (S R : Set) (old now : W) (k : ℕ) → Going S R old now → Some k ≡ first R → (k ∈ S) × (k < 32)
+  taken_in S R old now k g i = let m = first_member R 0 32 k (sym i) in (g.within k m.0, m.1)
+
+  pub goes_on : (S R Q : Set) (old now next : W) (k : ℕ) → Going S R old now → Some k ≡ first R → Q ≡ without R k → next ≡ f k now → Going S Q old next
+  goes_on S R Q old now next k g i e d =
+      let m = first_member R 0 32 k (sym i) in
+      record {
+        within = λ j h. g.within j (and_parts (R j) _ (sym (ap (λ T. T j) e) ∙ h)).0;
+        same =
+            ap (λ T. through (turn T) 32 next) e
+            ∙ ap (through (turn (without R k)) 32) d
+            ∙ sym (turns_from R k 32 now m.0 (λ j l. first_lowest R 0 32 k j (sym i) (omega arith) l) m.1)
+            ∙ g.same;
+      }
+
+  pub ended : (S R : Set) (old now : W) → Going S R old now → None ≡ first R → now ≡ through (turn S) 32 old
+  ended S R old now g i = sym (no_turns R 32 now (λ j l. first-none R 0 32 j (sym i) (omega arith) l)) ∙ g.same
+
+module _ {M : Type 0} (o : Ops M) (s : ℕ → Sign) (x : ℕ → M) where
+  -- one turn of a gathering
+  abbrev pub taking : ℕ → M → M
+  taking k a = taken o (s k) (x k) a
 
   -- members without a sign can be left out
   pub gathered_signed : (S R : Set) (a : M) → ((k : ℕ) → k < 32 → k ∈ S → k ∈ R) → ((k : ℕ) → k < 32 → k ∈ R → S k ≡ false → s k ≡ none) → gathered o S s x a ≡ gathered o R s x a
@@ -65,9 +86,9 @@ module _ {M : Type 0} (o : Ops M) (s : ℕ → Sign) (x : ℕ → M) where
       one k a false true e f l = sym (ap (λ t. taken o t (x k) a) (silent k l f e))
       one k a false false e f l = refl
 
-      go : (n : ℕ) → n < 33 → through (turn o S s x) n a ≡ through (turn o R s x) n a
+      go : (n : ℕ) → n < 33 → through (turn taking S) n a ≡ through (turn taking R) n a
       go zero l = refl
-      go (suc n) l = one n _ (S n) (R n) refl refl (omega arith) ∙ ap (λ (w : M). turn o R s x n w) (go n (omega arith))
+      go (suc n) l = one n _ (S n) (R n) refl refl (omega arith) ∙ ap (turn taking R n) (go n (omega arith))
 
 -- a place that is neither a member of a row nor against has no sign
 pub no_sign : (row : Shown) (k : ℕ) → bits row.members k ≡ false → bits row.against k ≡ false → entry row k ≡ none

@@ -1,32 +1,23 @@
 -- Gathered sums are the sums of the parts that a frame and an area hold. Assumes nothing.
 use Rattle.std.proofs.Common.{ltb, length, is_some, Some, None, Option, MatchOption, IfSome, count_by, ◌≡◌, ℕ, zero, suc, ◌+◌, Bool, true, false, cond, List, ◌∷◌, get_or, set, sym, ap, ◌∙◌, subst, ap₂, arith, get_or-set_other}
 use Rattle.std.specs.List.{range_with_len}
-use Rattle.std.proofs.lemmas.Bool.{cond-true}
 use Rattle.std.proofs.lemmas.List.Sums.{sum_by-cons}
 use Rattle.std.proofs.lemmas.List.{get_or-map, get_or_past, length-map}
 use denote.Ref.{Bor}
 use borrow.Author.Tests.{ltb-true, ltb-false}
 use Rattle.sheet.specs.declared.row.Row.{Row}
 use Rattle.arithmetic.specs.Ops.{Ops}
-use Rattle.graphs.specs.Graph.{Set, count, Sign}
+use Rattle.graphs.specs.Graph.{Set, count}
 use Rattle.linear.specs.Elimination.{cell}
 use Rattle.networks.specs.Words.{bits}
-use Rattle.stories.specs.Assembly.{through, taken, Parts, entry_of, levelled, right_of, size, with_row}
+use Rattle.stories.specs.Assembly.{through, Parts, entry_of, right_of, size, with_row}
 use Rattle.assembly.specs.declared.frame.Frame.{Frame}
 use Rattle.assembly.specs.Frames.{entered, levels_of, Frames, Holds}
-
-module _ {M : Type 0} (o : Ops M) where
-  -- one turn of a gathering
-  abbrev pub turn : Set → (ℕ → Sign) → (ℕ → M) → ℕ → M → M
-  turn S s x k a = cond (S k) (taken o (s k) (x k) a) a
+use Rattle.assembly.proofs.Members.{turn}
 
 -- what a word's question says of the set that it means
 pub asked : {S R : Set} (k : ℕ) {r b : Bool} → S ≡ R → r ≡ S k → r ≡ b → R k ≡ b
 asked k e h i = sym (ap (λ S. S k) e) ∙ sym h ∙ i
-
--- one turn of the right side
-abbrev pub right_turn : {M : Type 0} → Ops M → Parts M → ℕ → ℕ → M → M
-right_turn o c t v a = cond (c.fixed v) (levelled o c t v a) a
 
 -- writing the system leaves what it is made of
 pub holds_written : {M : Type 0} (o : Ops M) (c : Parts M) (w : List M) (r j : ℕ) (x : M) → Holds o c w → Holds o c (set w (cell r j) x)
@@ -40,30 +31,13 @@ holds_if o c w true r j x h = holds_written o c w r j x h
 holds_if o c w false r j x h = h
 
 -- one entry of a row
-abbrev pub entry_turn : {M : Type 0} → Ops M → Parts M → ℕ → ℕ → List M → List M
-entry_turn o c t r w = cond (c.unknown r) (set w (cell (count c.unknown t) (count c.unknown r)) (entry_of o c t r)) w
+abbrev pub entry_put : {M : Type 0} → Ops M → Parts M → ℕ → ℕ → List M → List M
+entry_put o c t r w = set w (cell (count c.unknown t) (count c.unknown r)) (entry_of o c t r)
 
-pub holds_entries : {M : Type 0} (o : Ops M) (c : Parts M) (t n : ℕ) (w : List M) → Holds o c w → Holds o c (through (entry_turn o c t) n w)
+holds_entries : {M : Type 0} (o : Ops M) (c : Parts M) (t n : ℕ) (w : List M) → Holds o c w → Holds o c (through (turn (entry_put o c t) c.unknown) n w)
 unfolding through
 holds_entries o c t zero w h = h
 holds_entries o c t (suc n) w h = holds_if o c _ (c.unknown n) (count c.unknown t) (count c.unknown n) (entry_of o c t n) (holds_entries o c t n w h)
-
-pub holds_row : {M : Type 0} (o : Ops M) (c : Parts M) (t : ℕ) (w : List M) → Holds o c w → Holds o c (with_row o c t w)
-unfolding with_row
-holds_row o c t w h = holds_written o c _ (count c.unknown t) (size c) (right_of o c t) (holds_entries o c t 32 w h)
-
--- one row of the system
-abbrev pub row_turn : {M : Type 0} → Ops M → Parts M → ℕ → List M → List M
-row_turn o c t w = cond (c.unknown t) (with_row o c t w) w
-
-holds_row_if : {M : Type 0} (o : Ops M) (c : Parts M) (t : ℕ) (b : Bool) (w : List M) → Holds o c w → Holds o c (cond b (with_row o c t w) w)
-holds_row_if o c t true w h = holds_row o c t w h
-holds_row_if o c t false w h = h
-
-pub holds_rows : {M : Type 0} (o : Ops M) (c : Parts M) (n : ℕ) (w : List M) → Holds o c w → Holds o c (through (row_turn o c) n w)
-unfolding through
-holds_rows o c zero w h = h
-holds_rows o c (suc n) w h = holds_row_if o c n (c.unknown n) _ (holds_rows o c n w h)
 
 -- places among the members of a set
 count_more : (S : Set) (k : ℕ) → count S (k + 1) ≡ count S k + cond (S k) 1 0
@@ -88,15 +62,16 @@ counted S n = omega (arith, counted-from S 0 n, ap (count S) (let e : 0 + n ≡ 
 
 -- the same of code that holds such a list
 module _ {M : Type 0} (o : Ops M) (c : Parts M) where
-  pub entries-kept : (t n : ℕ) (w v : List M) → Holds o c w → v ≡ through (entry_turn o c t) n w → Holds o c v
-  entries-kept t n w v h e = subst (Holds o c) (sym e) (holds_entries o c t n w h)
-
-  pub rows_kept : (n : ℕ) (w v : List M) → Holds o c w → v ≡ through (row_turn o c) n w → Holds o c v
-  rows_kept n w v h e = subst (Holds o c) (sym e) (holds_rows o c n w h)
+  pub entry-kept : (t r : ℕ) (w v : List M) → Holds o c w → v ≡ entry_put o c t r w → Holds o c v
+  entry-kept t r w v h e = subst (Holds o c) (sym e) (holds_written o c w (count c.unknown t) (count c.unknown r) (entry_of o c t r) h)
 
   pub entered-kept : (t : ℕ) (w v : List M) → Holds o c w → v ≡ entered o c t w → Holds o c v
   unfolding entered
-  entered-kept t w v h e = entries-kept t 32 w v h e
+  entered-kept t w v h e = subst (Holds o c) (sym e) (holds_entries o c t 32 w h)
+
+  pub row_kept : (t : ℕ) (w v : List M) → Holds o c w → v ≡ with_row o c t w → Holds o c v
+  unfolding with_row
+  row_kept t w v h e = subst (Holds o c) (sym e) (holds_written o c _ (count c.unknown t) (size c) (right_of o c t) (holds_entries o c t 32 w h))
 
   module _ (f : Frame) (fr : Frames c f) where
     -- places among the unknowns
@@ -105,24 +80,22 @@ module _ {M : Type 0} (o : Ops M) (c : Parts M) where
 
     -- an entry stands at the places of its unknowns
     pub entry_written :
-        (t r : ℕ) (w v : List M) (x : M) (row column place : ℕ) → c.unknown r ≡ true →
+        (t r : ℕ) (w v : List M) (x : M) (row column place : ℕ) →
         row ≡ count_by (bits f.unknown) (range_with_len 0 t) → column ≡ count_by (bits f.unknown) (range_with_len 0 r) →
-        x ≡ entry_of o c t r → place ≡ cell row column → v ≡ set w place x → v ≡ entry_turn o c t r w
-    entry_written t r w v x row column place m i j d p q =
+        x ≡ entry_of o c t r → place ≡ cell row column → v ≡ set w place x → v ≡ entry_put o c t r w
+    entry_written t r w v x row column place i j d p q =
         q ∙ ap (set w place) d
         ∙ ap (λ (k : ℕ). set w k (entry_of o c t r)) (p ∙ ap₂ (λ (a b : ℕ). cell a b) (place_is t row i) (place_is r column j))
-        ∙ sym (cond-true _ _ _ m)
 
     -- a row is its entries and its right side
     pub row_written :
-        (t : ℕ) (w u v : List M) (x : M) (row column place : ℕ) → c.unknown t ≡ true → u ≡ entered o c t w →
+        (t : ℕ) (w u v : List M) (x : M) (row column place : ℕ) → u ≡ entered o c t w →
         row ≡ count_by (bits f.unknown) (range_with_len 0 t) → column ≡ count_by (bits f.unknown) (range_with_len 0 32) →
-        x ≡ right_of o c t → place ≡ cell row column → v ≡ set u place x → v ≡ row_turn o c t w
+        x ≡ right_of o c t → place ≡ cell row column → v ≡ set u place x → v ≡ with_row o c t w
     unfolding with_row entered
-    row_written t w u v x row column place m e i j d p q =
+    row_written t w u v x row column place e i j d p q =
         q ∙ ap (λ u. set u place x) e ∙ ap (set (entered o c t w) place) d
         ∙ ap (λ (k : ℕ). set (entered o c t w) k (right_of o c t)) (p ∙ ap₂ (λ (a b : ℕ). cell a b) (place_is t row i) (place_is 32 column j))
-        ∙ sym (cond-true _ _ _ m)
 
 -- the level of a row that is looked up
 pub level_read :

@@ -8,12 +8,12 @@ ghost use Rattle.topology.specs.Rows.{sign_of};
 ghost use Rattle.networks.specs.Words.{bits};
 
 use arithmetic::Arithmetic;
-use networks::{common, either, members_of};
 use sheet::Shown;
+use networks::{common, either, members_of};
 use topology::{Sign, sign_at};
 
 // The sum with a term added at plus and subtracted at minus.
-fn take<N: Arithmetic>(sign: Sign, term: N, sum: N) -> N
+pub(crate) fn take<N: Arithmetic>(sign: Sign, term: N, sum: N) -> N
     ensures { N.mean result ≡ taken N.ops (sign_of sign) (N.mean term) (N.mean sum) }
 {
     match sign {

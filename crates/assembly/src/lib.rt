@@ -9,6 +9,7 @@ mod gathering;
 mod rows;
 mod setting;
 mod system;
+mod values;
 
 pub use frame::Frame;
 pub use setting::Setting;

@@ -1,5 +1,5 @@
 // What a step's sums are made of, and the sums that its system needs.
-ghost use Rattle.std.specs.Prelude.{◌≡◌, ◌<◌, if◌then◌else◌};
+ghost use Rattle.std.specs.Prelude.{◌≡◌, ◌<◌};
 ghost use Rattle.assembly.specs.Frames.{Sets, levels_of};
 ghost use Rattle.graphs.specs.Graph.{◌∈◌};
 ghost use Rattle.stories.specs.Assembly.{Parts, entry_of, fed, levelled, right_of};
@@ -9,8 +9,8 @@ use crate::gathering::gather_row;
 use crate::rows::{agreement, turn_row};
 use arithmetic::Arithmetic;
 use linear::get;
-use networks::has;
 use sheet::Row;
+use networks::members_of;
 
 // The frame, the area with the companions of the branches, and the rows with the voltages of the sources. The contracts
 // speak of any parts that these have (`Sets`) and of the parts' tree: a ghost field would ask callers for some parts.
@@ -55,15 +55,10 @@ impl<'a, N: Arithmetic> Setting<'a, N> {
         self.rows.get(v as usize).map_or(N::zero(), |row| row.value)
     }
 
-    // A right side once the voltage source v has been taken to it, where v is one. That v is below 32 is asked here, since a
-    // type for it would be made by the loop for this one call.
+    // A right side once the voltage source v has been taken to it.
     fn level_by(&self, t: u32, v: u32, sum: N) -> N
-        requires { v < 32 }
-        ensures { (c : Parts N.Meaning) → Sets N.ops N.mean c self.now.frame.now self.now.area.now self.now.rows.now → t ∈ c.tree → N.mean result ≡ (if c.fixed v then levelled N.ops c t v (N.mean sum) else N.mean sum) }
+        ensures { (c : Parts N.Meaning) → Sets N.ops N.mean c self.now.frame.now self.now.area.now self.now.rows.now → t ∈ c.tree → v < 32 → v ∈ c.fixed → N.mean result ≡ levelled N.ops c t v (N.mean sum) }
     {
-        if !has(self.frame.fixed, v) {
-            return sum;
-        }
         let row = turn_row(agreement(self.frame.cut(t), self.frame.cut(v)));
         let level = self.level(v);
         gather_row(
@@ -75,12 +70,11 @@ impl<'a, N: Arithmetic> Setting<'a, N> {
     }
 
     // The right side of an unknown: its feeds, then each voltage source in turn.
-    #[tactic(auto, using(crate::proofs::Turns::turns), unfolding(stories::specs::Assembly::right_of))]
     pub(crate) fn right_of(&self, t: u32) -> N
         ensures { (c : Parts N.Meaning) → Sets N.ops N.mean c self.now.frame.now self.now.area.now self.now.rows.now → t ∈ c.tree → N.mean result ≡ right_of N.ops c t }
     {
         let mut sum = self.feeds_of(t);
-        for v in 0..32 {
+        for v in members_of(self.frame.fixed) {
             sum = self.level_by(t, v, sum);
         }
         sum

@@ -7,8 +7,8 @@ use Rattle.std.specs.Fmt.{HasWritten}
 use Rattle.std.proofs.Output.{has_written_append, has_written_of_eq}
 use Rattle.graphs.specs.Graph.{Set, ◌∈◌, without}
 use Rattle.sheet.specs.declared.refusal.Shown.{Shown}
-use Rattle.topology.specs.Words.{bits, first}
-use Rattle.topology.proofs.Firsts.{first_member, first_lowest, first-none}
+use Rattle.networks.specs.Words.{bits, first}
+use Rattle.networks.proofs.Firsts.{first_member, first_lowest, first-none}
 use Rattle.printed_key.specs.Blocks.{sided}
 use Rattle.printed_key.specs.Text.{Word, spaced, listed}
 

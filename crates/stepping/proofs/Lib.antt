@@ -4,6 +4,6 @@ pub mod Rows
 pub mod Clearing
 pub mod Working
 pub mod Settling
-pub mod Taking
+pub mod Asking
 pub mod Stepping
 pub mod Beginning

@@ -32,9 +32,10 @@ use Rattle.stories.proofs.Networks.{placed_kind}
 use Rattle.stories.proofs.Systems.{step_few}
 use Rattle.stories.proofs.Trees.{proper_voltage}
 use Rattle.assembly.specs.declared.frame.Frame.{Frame}
-use Rattle.assembly.specs.Figures.{all, in_use, voltage_at, found, Filled}
+use Rattle.assembly.specs.Figures.{all, in_use, voltage_at, current_at, found, Filled}
 use Rattle.assembly.specs.Frames.{Frames, FrameOf, Holds, Levels, levels_of, system_of}
 use Rattle.assembly.proofs.Filling.{voltages_used}
+use Rattle.assembly.proofs.Touching.{members_filled}
 use Rattle.stepping.specs.Steps.{companion_turn, Worked}
 
 pub map-replicate : {X Y : Type 0} (f : X → Y) (n : ℕ) (x : X) → map f (replicate n x) ≡ replicate n (f x)
@@ -162,11 +163,11 @@ module _ {V M : Type 0} (o : Ops M) (mean : V → M) (p : Plan) (rows : List (Ro
   pub figured :
       (f : Frame) → FrameOf p w f → (r : Option ℕ) (n : ℕ) (a voltages currents : List M) → Worked o h sheet r a → r ≡ Some n →
       ((c : Parts M) → Frames c f → Levels c (levels_of o mean rows) → Filled o all (voltage_at o c (found o a n)) 32 voltages) →
-      ((c : Parts M) (x : ℕ → M) → Frames c f → Holds o c a → Filled o (in_use c) (voltage_of o c x) 32 voltages → Filled o (in_use c) (current_of o c x) 32 currents) → Figured currents voltages
+      ((c : Parts M) (x : ℕ → M) → Frames c f → Holds o c a → Filled o (in_use c) (voltage_of o c x) 32 voltages → Filled o all (current_at o c x) 32 currents) → Figured currents voltages
   figured f of r n a voltages currents worked e us is =
       let fr = frames f of in
       let v = voltages_are n a voltages (worked.unknowns n e) worked.left (voltages_used o parts f fr (found o a n) voltages (us parts fr levels)) in
-      record { ok = sym (ap is_some e) ∙ worked.ok; is = is parts (figure_of o parts) fr (holds_solved a worked.left) v; us = v }
+      record { ok = sym (ap is_some e) ∙ worked.ok; is = members_filled o (in_use parts) (current_of o parts (figure_of o parts)) currents (is parts (figure_of o parts) fr (holds_solved a worked.left) v); us = v }
 
   ok_is : (b : Bool) → is_ok (answered true b) ≡ b
   ok_is true = refl

@@ -1,7 +1,8 @@
-use Rattle.std.proofs.Common.{◌≡◌, map}
-use Rattle.stories.specs.Assembly.{through, Parts}
-use Rattle.assembly.specs.Frames.{Sets}
-use Rattle.assembly.proofs.Reading.{row_turn}
+use Rattle.std.proofs.Common.{map}
+use Rattle.stories.specs.Assembly.{Parts, with_row}
+use Rattle.networks.specs.Words.{bits}
+use Rattle.assembly.specs.Frames.{Holds, Sets}
+use Rattle.assembly.proofs.Members.{Going}
 use Rattle.assembly.proofs.system.assemble.Given as goal
 
 abbrev pub invariant-loop-t : goal.invariant-loop-t
@@ -9,4 +10,4 @@ invariant-loop-t g l =
     let o = g.N.Arithmetic.ops in
     let m = g.N.Arithmetic.mean in
     (c : Parts g.N.Arithmetic.Meaning) → Sets o m c l.frame l.initial.area l.rows →
-    map m l.area ≡ through (row_turn o c) l.t (map m l.initial.area)
+    Going (with_row o c) c.unknown (bits l.t-iterator.left) (map m l.initial.area) (map m l.area) × Holds o c (map m l.area)

@@ -1,6 +1,5 @@
 use Rattle.std.proofs.Common.{rules}
-use Rattle.assembly.proofs.Making.{filled_made}
 use Rattle.assembly.proofs.setting.Setting.tree_voltages.Goals as goal
 
 pub returns : goal.returns
-returns g c parts fr levels = filled_made _ _ _ _ g.N.Arithmetic.nil _ _ _ (λ k y q l called. search rules) c.from_fn.ensures.items
+returns g c parts fr levels = c.values_at.ensures _ _ fr.tree (λ k y l i called. search rules)

@@ -1,6 +1,6 @@
 use Rattle.std.proofs.Common.{rules, decimal, sym}
-use Rattle.topology.specs.Words.{bits}
-use Rattle.topology.proofs.Firsts.{first_member}
+use Rattle.networks.specs.Words.{bits}
+use Rattle.networks.proofs.Firsts.{first_member}
 use Rattle.printed_key.proofs.Listing.{lowest_written, all_written}
 use Rattle.printed_key.proofs.words.MembersDisplay.fmt.Goals as goal
 

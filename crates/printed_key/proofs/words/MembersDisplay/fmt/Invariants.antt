@@ -1,6 +1,6 @@
 use Rattle.std.proofs.Common.{decimal}
 use Rattle.std.specs.Fmt.{IsPlainFormatter}
-use Rattle.topology.specs.Words.{bits}
+use Rattle.networks.specs.Words.{bits}
 use Rattle.printed_key.proofs.Listing.{Remains}
 use Rattle.printed_key.proofs.words.MembersDisplay.fmt.Given as goal
 

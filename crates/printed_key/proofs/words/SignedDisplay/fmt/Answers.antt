@@ -1,6 +1,6 @@
 use Rattle.std.proofs.Common.{rules, sym}
-use Rattle.topology.specs.Words.{bits}
-use Rattle.topology.proofs.Firsts.{first_member}
+use Rattle.networks.specs.Words.{bits}
+use Rattle.networks.proofs.Firsts.{first_member}
 use Rattle.printed_key.proofs.Listing.{word_in, lowest_written, all_written}
 use Rattle.printed_key.proofs.words.SignedDisplay.fmt.Goals as goal
 

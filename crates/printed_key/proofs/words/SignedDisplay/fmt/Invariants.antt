@@ -1,5 +1,5 @@
 use Rattle.std.specs.Fmt.{IsPlainFormatter}
-use Rattle.topology.specs.Words.{bits}
+use Rattle.networks.specs.Words.{bits}
 use Rattle.printed_key.proofs.Listing.{word_in, Remains}
 use Rattle.printed_key.proofs.words.SignedDisplay.fmt.Given as goal
 

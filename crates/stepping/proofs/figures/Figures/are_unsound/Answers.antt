@@ -2,7 +2,7 @@ use Rattle.std.proofs.Common.{◌≡◌, map, sym, ap, ◌∙◌, subst, rules}
 use Rattle.networks.specs.Networks.{placed}
 use Rattle.networks.specs.Words.{bits}
 use Rattle.stepping.specs.Steps.{unsound_at}
-use Rattle.stepping.proofs.Taking.{Asked, asked_start, asked_yes, asked_no, asked_none, placed_asked}
+use Rattle.stepping.proofs.Asking.{Asked, asked_start, asked_yes, asked_no, asked_none, placed_asked}
 use Rattle.stepping.proofs.figures.Figures.are_unsound.Goals as goal
 
 pub loop-k-init : goal.loop-k-init

@@ -2,7 +2,7 @@ use Rattle.std.proofs.Common.{map}
 use Rattle.networks.specs.Networks.{placed}
 use Rattle.networks.specs.Words.{bits}
 use Rattle.stepping.specs.Steps.{unsound_at}
-use Rattle.stepping.proofs.Taking.{Asked}
+use Rattle.stepping.proofs.Asking.{Asked}
 use Rattle.stepping.proofs.figures.Figures.are_unsound.Given as goal
 
 abbrev pub invariant-loop-k : goal.invariant-loop-k

@@ -1,5 +1,4 @@
--- What is left of a loop over the members of a word: the turns of those left make of what stands now what all would have made
--- of the start. Assumes nothing.
+-- The members of a word asked one after another. Assumes nothing.
 use Rattle.std.proofs.Common.{◌≡◌, ℕ, zero, suc, ◌<◌, Bool, true, false, ◌&&◌, ◌||◌, not, eqb, List, get_or, Some, None, sym, refl, ap, ◌∙◌, ap₂, inl, inr, arith}
 use Rattle.std.proofs.lemmas.Bool.{and_parts, cases_eq, ne_eqb, cond-true}
 use mathlib.Core.Bool.{and-true}
@@ -9,35 +8,13 @@ use Rattle.graphs.specs.Graph.{Set, ◌∈◌, without, both}
 use Rattle.networks.specs.Networks.{placed}
 use Rattle.networks.specs.Words.{first}
 use Rattle.networks.proofs.Firsts.{first_member, first-none}
-use Rattle.stories.specs.Assembly.{through}
 use Rattle.stories.specs.Networks.{any}
-use Rattle.assembly.proofs.Overs.{over, over_lowest, over_none}
 use Rattle.stepping.specs.Steps.{unsound_at}
 use Rattle.stepping.proofs.Settling.{any-alike}
-
-pub record Rest {W : Type 0} (f : ℕ → W → W) (S L : Set) (start now : W) : Type 0 where
-  pub within : (k : ℕ) → k ∈ L → k ∈ S
-  pub rest : through (over f L) 32 now ≡ through (over f S) 32 start
 
 -- what is left of those taken from is within
 pub less_within : (S L R : Set) (k : ℕ) → ((j : ℕ) → j ∈ L → j ∈ S) → R ≡ without L k → (j : ℕ) → j ∈ R → j ∈ S
 less_within S L R k within e j m = within j (and_parts (L j) _ (sym (ap (λ (T : Set). T j) e) ∙ m)).0
-
-module _ {W : Type 0} (f : ℕ → W → W) (S : Set) where
-  pub rest_start : (w : W) → Rest f S S w w
-  rest_start w = record { within = λ k m. m; rest = refl }
-
-  pub rest_turn : (L R : Set) (k : ℕ) (start now next : W) → Rest f S L start now → Some k ≡ first L → R ≡ without L k → next ≡ over f S k now → Rest f S R start next
-  rest_turn L R k start now next r e d n =
-      let found = first_member L 0 32 k (sym e) in
-      let turn : next ≡ f k now = n ∙ cond-true (S k) (f k now) now (r.within k found.0) in
-      record {
-        within = less_within S L R k r.within d;
-        rest = ap₂ (λ (T : Set) (w : W). through (over f T) 32 w) d turn ∙ sym (over_lowest f L k now e) ∙ r.rest;
-      }
-
-  pub rest_done : (L : Set) (start now : W) → Rest f S L start now → None ≡ first L → now ≡ through (over f S) 32 start
-  rest_done L start now r e = sym (over_none f L now e) ∙ r.rest
 
 -- members are asked one after another, none so far with a yes
 pub record Asked (U S L : Set) : Type 0 where
