@@ -2,8 +2,8 @@
 ghost use Rattle.std.specs.Prelude.{◌≡◌};
 ghost use Rattle.assembly.specs.Frames.{cut_at, FrameOf};
 
-use sheet::{Plan, Shown};
 use networks::{less, no_current_sources, placed_branches, voltage_sources};
+use sheet::{Plan, Shown};
 use topology::TreeRows;
 
 #[derive(Clone, Copy)]

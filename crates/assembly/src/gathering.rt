@@ -8,8 +8,8 @@ ghost use Rattle.topology.specs.Rows.{sign_of};
 ghost use Rattle.networks.specs.Words.{bits};
 
 use arithmetic::Arithmetic;
-use sheet::Shown;
 use networks::{common, either, members_of};
+use sheet::Shown;
 use topology::{Sign, sign_at};
 
 // The sum with a term added at plus and subtracted at minus.

@@ -4,8 +4,8 @@ ghost use Rattle.graphs.specs.Cuts.{turned};
 ghost use Rattle.stories.specs.Assembly.{agree};
 ghost use Rattle.topology.specs.Matrices.{entry};
 
-use sheet::Shown;
 use networks::{common, either, less};
+use sheet::Shown;
 
 // Plus where both rows have equal signs, minus where they have opposite ones.
 pub(crate) fn agreement(a: Shown, b: Shown) -> Shown

@@ -9,8 +9,8 @@ use crate::gathering::gather_row;
 use crate::rows::{agreement, turn_row};
 use arithmetic::Arithmetic;
 use linear::get;
-use sheet::Row;
 use networks::members_of;
+use sheet::Row;
 
 // The frame, the area with the companions of the branches, and the rows with the voltages of the sources. The contracts
 // speak of any parts that these have (`Sets`) and of the parts' tree: a ghost field would ask callers for some parts.

@@ -13,8 +13,8 @@ use crate::frame::Frame;
 use crate::setting::Setting;
 use arithmetic::Arithmetic;
 use linear::{place, put};
-use sheet::Row;
 use networks::members_of;
+use sheet::Row;
 
 // How many members of a word are below k: the place of k among them.
 pub(crate) fn place_among(word: u32, k: u32) -> u32

@@ -78,7 +78,11 @@ pub fn printed_key(heap: Global, input: &[u8]) -> Result<String, AllocError>
     ensures text { IfOk result (λ t. string_bytes t ≡ network_text input.now) }
     ensures too_long { 4096 < length input.now → IfOk result (λ t. string_bytes t ≡ codes "refused 25\n") }
 {
-    text_by(heap, input, |text, circuit| push_network(text, &circuit.framed()))
+    text_by(
+        heap,
+        input,
+        |text, circuit| push_network(text, &circuit.framed()),
+    )
 }
 
 // The same with the readings and the remainders.

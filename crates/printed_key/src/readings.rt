@@ -8,10 +8,10 @@ use crate::stop::Stop;
 use crate::words::place;
 use arithmetic::Arithmetic;
 use figures::reading;
+use networks::is_placed;
 use sheet::{Plan, Refusal, Row};
 use std::alloc::AllocError;
 use stepping::Framed;
-use networks::is_placed;
 
 // The reading of the branch k; none at an empty place.
 fn reading_at(plan: &Plan, rows: &[Row<f64>; 32], k: u32) -> Result<Option<i32>, Refusal>

@@ -4,9 +4,9 @@ ghost use Rattle.std.specs.Prelude.{◌≡◌, ◌<◌, ◌∷◌, Some, decimal
 ghost use Rattle.printed_key.specs.Blocks.{member_words, sided, signed_words};
 ghost use Rattle.printed_key.specs.Text.{spaced, listed};
 
+use networks::{has, members_of};
 use sheet::Shown;
 use std::fmt;
-use networks::{has, members_of};
 
 // Each number behind a space, behind a plus, and behind a minus.
 const PLAIN: [&str; 32] = [
