@@ -5,7 +5,7 @@
 //!
 //! with the programs `key`, `steps`, `plain` and `stripped`, how many steps are taken, a folder of card files on which
 //! the three keys are compared first, and for each circuit its name, its card file and the companion network of one step
-//! of it.
+//! of it. With `-` for a network nothing is run beside ngspice.
 
 use std::error::Error;
 use std::fs::{self, File};
@@ -254,6 +254,10 @@ fn main() -> Answer<()> {
     let programs: [&[&str]; 3] = [&[steps], &[plain, "steps"], &[stripped, "steps"]];
     for circuit in &circuits {
         line_of_three("one step", circuit, step_times(programs, count, circuit)?);
+    }
+    if circuits.iter().any(|circuit| circuit.netlist == "-") {
+        println!("\nload of the machine after: {}", load());
+        return Ok(());
     }
     println!("\nmilliseconds of a run           key    ngspice    ngspice / key");
     let mut runs = Vec::new();

@@ -22,6 +22,10 @@ pub trait Parts {
 }
 
 impl<W: Write> Formatter<W> {
+    pub fn write_str(&mut self, text: &str) -> Result {
+        self.writer.write_str(text)
+    }
+
     /// What `write!` calls.
     pub fn write_fmt(&mut self, parts: impl Parts) -> Result {
         parts.write_to(self)
