@@ -5,7 +5,7 @@ ghost use Rattle.printed_key.specs.Text.{Adds, text_of, listed};
 ghost use Rattle.sheet.specs.declared.refusal.Shown.{Shown};
 ghost use Rattle.sheet.specs.Refusals.{Answer, granted};
 
-use crate::words::{Members, Signed};
+use crate::words::{Members, Signed, place};
 use sheet::Shown;
 use std::alloc::AllocError;
 use stepping::Framed;
@@ -21,7 +21,7 @@ fn push_rows<F: Fn(u32) -> Option<Shown>>(
 {
     for k in 0..32 {
         if let Some(row) = row_at(k) {
-            writeln!(text, "{name} {k}{}", Signed(row))?;
+            writeln!(text, "{name}{}{}", place(k), Signed(row))?;
         }
     }
     Ok(())
