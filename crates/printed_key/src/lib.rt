@@ -32,6 +32,9 @@ use topology::tree;
 // The longest input, in bytes.
 pub const LONGEST: usize = 4096;
 
+// Room for the text of a key of 32 branches, as a rule; a longer text grows.
+const ROOM: usize = 2048;
+
 // The circuit of a card file, or what stands in its way.
 pub fn read_circuit(input: &[u8]) -> Result<Circuit, Stop>
     ensures lines { (blocks : Blocks) → lines_by blocks input.now ≡ lines_read blocks result }
@@ -54,7 +57,7 @@ fn text_by<F: FnOnce(&mut String, Circuit) -> Result<(), AllocError>>(
     requires { F.IsAlwaysCallable push_blocks }
     ensures { (blocks : Blocks) → ((before after : _) (c : Circuit) (r : _) → F.post push_blocks before c r after → Adds r (string_bytes before.now) (string_bytes after.now) (text_of (blocks (record { plan = c.sheet.plan; rows = c.sheet.rows }) c.tree))) → IfOk result (λ t. string_bytes t ≡ text_of (lines_by blocks input.now)) }
 {
-    let mut text = String::new(heap);
+    let mut text = String::with_capacity(heap, ROOM)?;
     match read_circuit(input) {
         Ok(circuit) => push_blocks(&mut text, circuit)?,
         Err(stop) => writeln!(text, "{stop}")?,

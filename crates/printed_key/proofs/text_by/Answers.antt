@@ -8,10 +8,10 @@ pub returns : goal.returns
 returns g c = λ blocks pushes.
     elim c.match-read_circuit.branch [
       | in-Ok+in_ok-push_blocks-in-Ok w ↦
-          from_empty _ _ _ c.new-text.ensures.bytes
+          from_empty _ _ _ c.in_ok-text.ensures.bytes
           (ap string_bytes w.text-is ∙ pushes _ _ w.in-Ok.circuit _ w.in_ok-push_blocks-in-Ok.ensures)
           ∙ ap text_of (sym (w.in-Ok.ensures.lines blocks))
       | in-Err+in_ok-writeln-in-Err w ↦
-          from_empty _ _ _ c.new-text.ensures.bytes (ap string_bytes w.text-is ∙ line_added _ _ (codes "refused") _ _ w.in_ok-writeln-in-Err.ensures.bytes refl)
+          from_empty _ _ _ c.in_ok-text.ensures.bytes (ap string_bytes w.text-is ∙ line_added _ _ (codes "refused") _ _ w.in_ok-writeln-in-Err.ensures.bytes refl)
           ∙ ap text_of (sym (w.in-Err.ensures.lines blocks))
     ]
