@@ -1,6 +1,6 @@
 // Incidence, loop and cut matrices: a row a line, a column for each of the places 0 to 31 that holds a branch.
-use sheet::{Plan, Refusal, Shown};
 use networks::is_placed;
+use sheet::{Plan, Refusal, Shown};
 use topology::{Sign, cut_row, incidence, loop_row, sign_at, tree};
 
 // Signs are numbers in these matrices alone, so the sign's own crate has no such conversion.

@@ -3,9 +3,9 @@
 use crate::asked::Asked;
 use arithmetic::Arithmetic;
 use figures::{Trace, reading_of};
+use networks::is_placed;
 use sheet::{Plan, Refusal, Row};
 use stepping::step;
-use networks::is_placed;
 
 // The numbers of the placed branches, as the head of the columns.
 fn show_head(rt: &HostRuntime, plan: &Plan) -> anyhow::Result<()> {

@@ -10,6 +10,10 @@ impl String {
         String(std::string::String::new())
     }
 
+    pub fn with_capacity(_: Global, capacity: usize) -> Result<String, AllocError> {
+        Ok(String(std::string::String::with_capacity(capacity)))
+    }
+
     /// What `writeln!` calls.
     pub fn write_fmt(&mut self, parts: impl Parts) -> Result<(), AllocError> {
         let mut formatter = Formatter { writer: self };
