@@ -17,15 +17,16 @@ unfolding current_of gathered
 current_fixed o c x k is_fixed = sym (cond-true _ _ _ is_fixed)
 
 module _ {M : Type 0} (o : Ops M) (c : Parts M) (f : Frame) (fr : Frames c f) (x : ℕ → M) where
-  -- what is in use is a branch of the tree or a link
-  used_in : (k : ℕ) (a b : Bool) → c.fixed k ≡ a → c.tree k ≡ b → k ∈ in_use c → (c.tree k || c.link k) ≡ true
-  used_in k a true e d u = ap (λ b. b || c.link k) d
-  used_in k true false e d u = ap (λ b. b || c.link k) (fr.fixed_in k e)
-  used_in k false false e d u = or_right (c.tree k) (c.link k) (fr.feeding_in k (sym (ap (λ b. b || c.feeding k) e) ∙ u) d)
+  -- where a branch that feeds is of the tree or a link, so is what is in use
+  module _ (feeding_in : (k : ℕ) → k ∈ c.feeding → c.tree k ≡ false → k ∈ c.link) where
+    used_in : (k : ℕ) (a b : Bool) → c.fixed k ≡ a → c.tree k ≡ b → k ∈ in_use c → (c.tree k || c.link k) ≡ true
+    used_in k a true e d u = ap (λ b. b || c.link k) d
+    used_in k true false e d u = ap (λ b. b || c.link k) (fr.fixed_in k e)
+    used_in k false false e d u = or_right (c.tree k) (c.link k) (feeding_in k (sym (ap (λ b. b || c.feeding k) e) ∙ u) d)
 
-  -- so the voltages at all places are those of the branches in use
-  pub voltages_used : (voltages : List M) → Filled o all (voltage_at o c x) 32 voltages → Filled o (in_use c) (voltage_of o c x) 32 voltages
-  voltages_used voltages h = record { long = h.long; each = λ k l u. h.each k l refl ∙ cond-true _ _ _ (used_in k (c.fixed k) (c.tree k) refl refl u) }
+    -- and the voltages at all places are those of the branches in use
+    pub voltages_used : (voltages : List M) → Filled o all (voltage_at o c x) 32 voltages → Filled o (in_use c) (voltage_of o c x) 32 voltages
+    voltages_used voltages h = record { long = h.long; each = λ k l u. h.each k l refl ∙ cond-true _ _ _ (used_in k (c.fixed k) (c.tree k) refl refl u) }
 
   pub flow_passive : (k : ℕ) → bits f.passive k ≡ true → o.add (o.mul (c.conductance k) (voltage_of o c x k)) (c.feed k) ≡ flow_of o c x k
   unfolding flow_of

@@ -10,7 +10,7 @@
 -- levels_of       the values of rows, by meaning; zero past the last
 -- Levels c value  they are the levels of the fixed branches
 -- Sets            frame, area and rows have the parts c
-use Rattle.std.specs.Prelude.{◌≡◌, ℕ, ◌+◌, ◌<◌, false, cond, not, ◌&&◌, ◌||◌, List, map, slice_index_or, slice_set}
+use Rattle.std.specs.Prelude.{◌≡◌, ℕ, ◌+◌, ◌<◌, cond, not, ◌&&◌, ◌||◌, List, map, slice_index_or, slice_set}
 use Rattle.arithmetic.specs.Ops.{Ops}
 use Rattle.sheet.specs.declared.plan.Plan.{Plan}
 use Rattle.sheet.specs.declared.refusal.Shown.{Shown}
@@ -49,7 +49,6 @@ pub record Frames {M : Type 0} (c : Parts M) (f : Frame) : Type 0 where
   pub fixed_in : (v : ℕ) → v ∈ c.fixed → v ∈ c.tree
   pub unknown_in : (t : ℕ) → t ∈ c.unknown → t ∈ c.tree
   pub link_in : (k : ℕ) → k ∈ c.link → k ∈ c.feeding
-  pub feeding_in : (k : ℕ) → k ∈ c.feeding → c.tree k ≡ false → k ∈ c.link
 
 pub record FrameOf (p : Plan) (w : ℕ) (f : Frame) : Type 0 where
   pub passive : bits f.passive ≡ (λ k. is_passive (kind_at p k))

@@ -12,5 +12,6 @@ mod system;
 mod values;
 
 pub use frame::Frame;
+pub use linear::{get, put};
 pub use setting::Setting;
 pub use system::assemble;

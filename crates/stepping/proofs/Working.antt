@@ -92,8 +92,12 @@ module _ {V M : Type 0} (o : Ops M) (mean : V → M) (p : Plan) (rows : List (Ro
     fixed_in = every;
     unknown_in = λ t m. (and_parts (tree_set p t) (not (is_voltage (kind_at p t))) m).0;
     link_in = λ k m. link_feeds k (is_voltage (kind_at p k)) refl m;
-    feeding_in = λ k m out. and_from (placed p k) (not (tree_set p k)) (placed_kind p k ∙ stands (kind_at p k) m) (ap not out);
   }
+
+  -- a branch that feeds is of the tree or a link
+  feeding_in : (k : ℕ) → k ∈ parts.feeding → parts.tree k ≡ false → k ∈ parts.link
+  unfolding parts_of
+  feeding_in k m out = and_from (placed p k) (not (tree_set p k)) (placed_kind p k ∙ stands (kind_at p k) m) (ap not out)
 
   pub levels : Levels parts (levels_of o mean rows)
   unfolding parts_of levels_of row_at
@@ -166,7 +170,7 @@ module _ {V M : Type 0} (o : Ops M) (mean : V → M) (p : Plan) (rows : List (Ro
       ((c : Parts M) (x : ℕ → M) → Frames c f → Holds o c a → Filled o (in_use c) (voltage_of o c x) 32 voltages → Filled o all (current_at o c x) 32 currents) → Figured currents voltages
   figured f of r n a voltages currents worked e us is =
       let fr = frames f of in
-      let v = voltages_are n a voltages (worked.unknowns n e) worked.left (voltages_used o parts f fr (found o a n) voltages (us parts fr levels)) in
+      let v = voltages_are n a voltages (worked.unknowns n e) worked.left (voltages_used o parts f fr (found o a n) feeding_in voltages (us parts fr levels)) in
       record { ok = sym (ap is_some e) ∙ worked.ok; is = members_filled o (in_use parts) (current_of o parts (figure_of o parts)) currents (is parts (figure_of o parts) fr (holds_solved a worked.left) v); us = v }
 
   ok_is : (b : Bool) → is_ok (answered true b) ≡ b
