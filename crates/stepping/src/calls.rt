@@ -105,14 +105,18 @@ fn settle<N: Arithmetic>(
 }
 
 impl Framed<'_> {
-    // One time step of length h on the plan with this tree: as `step`, which would find the tree first.
+    // One time step of length h on the plan with this tree: as `step`, which would find the tree first, and a call of a
+    // story as that is.
     pub fn step<N: Arithmetic>(
         &self,
         rows: &mut [Row<N>],
         h: N,
         work: &mut [N],
     ) -> Result<(), Refusal>
-        ensures { StepDoes N.ops N.mean N.nil self.now.plan.now rows.old h work.old (verdict result) rows.new work.new }
+        ensures does { StepDoes N.ops N.mean N.nil self.now.plan.now rows.old h work.old (verdict result) rows.new work.new }
+        ensures story { (cs : List (StoryCall N.Meaning)) → run N.ops cs ≡ meant_sheet N.mean (record { plan = self.now.plan.now; rows = rows.old }) → Continues N.ops N.EXACT cs (length rows.old) (length work.old) (N.mean h) (meant_sheet N.mean (record { plan = self.now.plan.now; rows = rows.old })) (verdict result) (meant_sheet N.mean (record { plan = self.now.plan.now; rows = rows.new })) }
+        ensures stories { T N.EXACT → TheoremOfStories N.ops }
+        ensures trees { TreesOfStories N.ops }
     {
         may_step(rows.len(), work.len(), h)?;
         // The test of both lengths comes first, since it shows that arrays so long fit in memory.

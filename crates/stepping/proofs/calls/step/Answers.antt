@@ -29,6 +29,4 @@ returns-in_err-tree g c =
     g.N.Arithmetic.EXACT g.met.N.Arithmetic.lawful
 
 pub returns : goal.returns
-returns g c =
-    promise g.N.Arithmetic.ops g.N.Arithmetic.mean g.N.Arithmetic.nil c.args.plan.now c.args.rows.now c.args.h c.args.work.now _ _ _
-    c.step.ensures g.N.Arithmetic.EXACT g.met.N.Arithmetic.lawful
+returns g c = c.step.ensures
