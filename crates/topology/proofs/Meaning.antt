@@ -172,6 +172,15 @@ cut-answer p t = record {
       cut-none p f.0 t (granted_tree p f.0 f.1).0 f.2;
 }
 
+-- the rows of a tree that is at hand mean the same
+pub loop_at_hand : (p : Plan) (w k : ℕ) (r : Option Shown) → r ≡ loop_of p w k → tree_of p ≡ granted w → LoopAnswer p k (granted r)
+unfolding loop_row_of
+loop_at_hand p w k r e g = subst (LoopAnswer p k) (ap (λ a. after a (λ tree. granted (loop_of p tree k))) g ∙ sym (ap granted e)) (loop_answer p k)
+
+pub cut_at_hand : (p : Plan) (w t : ℕ) (r : Option Shown) → r ≡ cut_of p w t → tree_of p ≡ granted w → CutAnswer p t (granted r)
+unfolding cut_row_of
+cut_at_hand p w t r e g = subst (CutAnswer p t) (ap (λ a. after a (λ tree. granted (cut_of p tree t))) g ∙ sym (ap granted e)) (cut-answer p t)
+
 pub incidence-answer : (p : Plan) (x k : ℕ) → IncidenceAnswer p x k (incidence (graph_of p) x k)
 unfolding graph_of
 incidence-answer p x k = record {

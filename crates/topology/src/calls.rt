@@ -7,12 +7,14 @@ ghost use Rattle.topology.specs.Matrices.{Matrices};
 ghost use Rattle.topology.specs.Meanings.{TreeAnswer, LoopAnswer, CutAnswer, IncidenceAnswer};
 ghost use Rattle.networks.specs.Networks.{graph_of};
 ghost use Rattle.topology.specs.Rows.{sign_of};
-ghost use Rattle.topology.specs.Trees.{tree_of, loop_row_of, cut_row_of};
+ghost use Rattle.topology.specs.Trees.{tree_of, loop_of, cut_of, loop_row_of, cut_row_of};
 
 use crate::keeping::kept_branches;
-use crate::rows::{TreeRows, cut, difference};
+use crate::rows::{TreeRows, cut, cut_of_branch, difference};
 use crate::sign::Sign;
-use networks::{common, head, less, lowest, no_current_sources, tail, voltage_sources};
+use networks::{
+    common, has, head, is_placed, less, lowest, no_current_sources, tail, voltage_sources,
+};
 use sheet::{Plan, Refusal, Shown};
 
 // The tree. Refused by 12 with a loop of voltage sources, and by 13 with a cut of current sources.
@@ -38,7 +40,18 @@ pub fn loop_row(plan: &Plan, number: u32) -> Result<Option<Shown>, Refusal>
     ensures answer { told result ≡ loop_row_of plan.now number }
     ensures meaning { LoopAnswer plan.now number (told result) }
 {
-    Ok(TreeRows::of(plan, tree(plan)?).loop_in(number))
+    Ok(loop_of(plan, tree(plan)?, number))
+}
+
+// The cuts of the tree are worked out for a link alone.
+fn loop_of(plan: &Plan, tree: u32, number: u32) -> Option<Shown>
+    ensures { result ≡ loop_of plan.now tree number }
+{
+    if is_placed(plan, number) && !has(tree, number) {
+        Some(TreeRows::of(plan, tree).loop_along(number))
+    } else {
+        None
+    }
 }
 
 // The cut row of a branch of the plan's tree. Refused as the tree is.
@@ -46,7 +59,18 @@ pub fn cut_row(plan: &Plan, number: u32) -> Result<Option<Shown>, Refusal>
     ensures answer { told result ≡ cut_row_of plan.now number }
     ensures meaning { CutAnswer plan.now number (told result) }
 {
-    Ok(TreeRows::of(plan, tree(plan)?).cut_in(number))
+    Ok(cut_of(plan, tree(plan)?, number))
+}
+
+// One cut is worked out, and not all of the tree's.
+fn cut_of(plan: &Plan, tree: u32, number: u32) -> Option<Shown>
+    ensures { result ≡ cut_of plan.now tree number }
+{
+    if has(tree, number) {
+        Some(cut_of_branch(plan, tree, number))
+    } else {
+        None
+    }
 }
 
 // Plus where the branch has its tail at the node, minus where it has its head there, else zero.

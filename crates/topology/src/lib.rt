@@ -10,5 +10,5 @@ mod sign;
 mod stars;
 
 pub use calls::{cut_row, incidence, loop_row, row_laws, tree};
-pub use rows::{TreeRows, sign_at};
+pub use rows::{TreeRows, cut_of_branch, sign_at};
 pub use sign::Sign;

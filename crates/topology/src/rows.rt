@@ -1,6 +1,6 @@
 // Rows of signs: cuts of nodes, and loops along a branch.
 ghost use Rattle.std.specs.Prelude.{◌≡◌, ℕ, ◌<◌, false, slice_index_or};
-ghost use Rattle.graphs.specs.Cuts.{diff, loop_row};
+ghost use Rattle.graphs.specs.Cuts.{diff, cut_row, loop_row};
 ghost use Rattle.graphs.specs.Graph.{Set, none};
 ghost use Rattle.graphs.specs.Graph as graphs;
 ghost use Rattle.topology.specs.Matrices.{entry};
@@ -8,7 +8,9 @@ ghost use Rattle.networks.specs.Networks.{graph_of};
 ghost use Rattle.topology.specs.Stars.{StarsOf};
 ghost use Rattle.topology.specs.declared.sign.Sign.{Sign};
 ghost use Rattle.topology.specs.Rows.{sign_of, nothing, shown, cut_from};
-ghost use Rattle.topology.specs.Trees.{loop_of, cut_of, cut_at_place, CutsOf};
+ghost use Rattle.sheet.specs.Refusals.{granted};
+ghost use Rattle.topology.specs.Meanings.{LoopAnswer, CutAnswer};
+ghost use Rattle.topology.specs.Trees.{tree_of, loop_of, cut_of, cut_at_place, CutsOf};
 ghost use Rattle.networks.specs.Words.{bits, under};
 
 use crate::sign::Sign;
@@ -88,6 +90,14 @@ pub(crate) fn cut(plan: &Plan, word: u32, node: Node) -> Shown
     cut_at(plan, &Stars::of(plan), word, node)
 }
 
+// The cut row of a branch t of the tree: the cut of the tail's side when t is taken out. For a caller that has the tree and
+// wants one row; `TreeRows` works out all. Any set of branches may stand for the tree, and any branch for t.
+pub fn cut_of_branch(plan: &Plan, tree: u32, t: u32) -> Shown
+    ensures { result ≡ shown (cut_row (graph_of plan.now) (bits tree) 32 t) }
+{
+    cut(plan, remove(tree, t), tail(plan, t))
+}
+
 // The cut row of a member t of the word: the cut of the tail's side when t is taken out. No member for another number.
 fn cut_if(plan: &Plan, stars: &Stars, word: u32, t: u32) -> Shown
     ensures { StarsOf (graph_of plan.now) stars.now.leaving stars.now.entering → result ≡ cut_at_place plan.now word t }
@@ -159,7 +169,8 @@ impl<'a> TreeRows<'a> {
 
     // The loop row of a link, a placed branch outside the tree; none for another number.
     pub fn loop_in(&self, number: u32) -> Option<Shown>
-        ensures { result ≡ loop_of self.now.plan.now self.now.tree number }
+        ensures answer { result ≡ loop_of self.now.plan.now self.now.tree number }
+        ensures meaning { tree_of self.now.plan.now ≡ granted self.now.tree → LoopAnswer self.now.plan.now number (granted result) }
     {
         if is_placed(self.plan, number) && !has(self.tree, number) {
             Some(self.loop_along(number))
@@ -170,7 +181,8 @@ impl<'a> TreeRows<'a> {
 
     // The cut row of a branch of the tree; none for another number.
     pub fn cut_in(&self, number: u32) -> Option<Shown>
-        ensures { result ≡ cut_of self.now.plan.now self.now.tree number }
+        ensures answer { result ≡ cut_of self.now.plan.now self.now.tree number }
+        ensures meaning { tree_of self.now.plan.now ≡ granted self.now.tree → CutAnswer self.now.plan.now number (granted result) }
     {
         if has(self.tree, number) {
             Some(self.cut(number))

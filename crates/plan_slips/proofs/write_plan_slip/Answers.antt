@@ -19,7 +19,7 @@ returns-in_err-row c =
     let k = c.loop-k.k in
     let p = c.args.plan.now in
     let one : row_of k (Some c.in-Some.row) ≡ record { number = k; entries = c.entries_of.result } ∷ [] = ap (λ es. record { number = k; entries = es } ∷ []) (sym c.entries_of.ensures.value) in
-    let whole = rows_whole p w k (omega arith) (c.in-Some.ensures ∙ (λ i. loop_of (c.of-rows.ensures.plan i) (c.of-rows.ensures.tree i) k)) one in
+    let whole = rows_whole p w k (omega arith) (c.in-Some.ensures.answer ∙ (λ i. loop_of (c.of-rows.ensures.plan i) (c.of-rows.ensures.tree i) k)) one in
     let r = c.from_residual-in_err-row in
     let q = err_from_is_err_and r.result r.ensures.1 in
     let s =
@@ -42,14 +42,14 @@ loop-k-preserved c =
             ap (λ (x : SlipWriter). x.area.ghost_name) b.writer-is ∙ e.lender ∙ c.loop-k.invariant.0,
             subst held (sym b.writer-is)
                 (subst (λ (xs : List SlipRow). Written w xs c.args.area.now b.row.new.self.area.now b.row.new.self.counters.at b.row.new.self.counters.next)
-                (ap (λ xs. own_rows p w k ++ xs) (sym one) ∙ row_more p w k (b.in-Some.ensures ∙ of))
+                (ap (λ xs. own_rows p w k ++ xs) (sym one) ∙ row_more p w k (b.in-Some.ensures.answer ∙ of))
                 (row_written c.loop-k.invariant.1 k b.entries_of.result e.does e.lengths e.past e.holds)),
           )
       | in_default b ↦ (
         ap (λ (x : SlipWriter). x.area.ghost_name) b.writer-is ∙ c.loop-k.invariant.0,
         subst held (sym b.writer-is)
             (subst (λ (xs : List SlipRow). Written w xs c.args.area.now c.loop-k.writer.area.now c.loop-k.writer.counters.at c.loop-k.writer.counters.next)
-            (sym (append-nil (own_rows p w k)) ∙ row_more p w k (b.in_default.ensures ∙ of))
+            (sym (append-nil (own_rows p w k)) ∙ row_more p w k (b.in_default.ensures.answer ∙ of))
             c.loop-k.invariant.1),
       )
     ]

@@ -17,4 +17,4 @@ pub returns : goal.returns
 unfolding cut_row_of
 returns c =
     with_meaning (CutAnswer c.args.plan.now c.args.number) (cut-answer c.args.plan.now c.args.number)
-    (ap granted (c.cut_in.ensures ∙ (λ i. cut_of (c.of.ensures.plan i) (c.of.ensures.tree i) c.args.number)) ∙ ap (λ a. after a (λ tree. granted (cut_of c.args.plan.now tree c.args.number))) c.in_ok-tree.ensures.answer)
+    (ap granted c.cut_of.ensures ∙ ap (λ a. after a (λ tree. granted (cut_of c.args.plan.now tree c.args.number))) c.in_ok-tree.ensures.answer)

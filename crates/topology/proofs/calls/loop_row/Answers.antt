@@ -17,4 +17,4 @@ pub returns : goal.returns
 unfolding loop_row_of
 returns c =
     with_meaning (LoopAnswer c.args.plan.now c.args.number) (loop_answer c.args.plan.now c.args.number)
-    (ap granted (c.loop_in.ensures ∙ (λ i. loop_of (c.of.ensures.plan i) (c.of.ensures.tree i) c.args.number)) ∙ ap (λ a. after a (λ tree. granted (loop_of c.args.plan.now tree c.args.number))) c.in_ok-tree.ensures.answer)
+    (ap granted c.loop_of.ensures ∙ ap (λ a. after a (λ tree. granted (loop_of c.args.plan.now tree c.args.number))) c.in_ok-tree.ensures.answer)
