@@ -6,7 +6,7 @@ ghost use Rattle.sheet.specs.Meanings.{meant_placement};
 
 use crate::fault::Wrong;
 use crate::field::{Cut, Field};
-use crate::fields::cut;
+use crate::fields::{cut_after, first_field};
 use crate::token::Token;
 use arithmetic::Arithmetic;
 use sheet::{Kind, Placement, Refusal};
@@ -66,8 +66,7 @@ fn card<'a, N: Arithmetic>(
 pub(crate) fn read_line<N: Arithmetic>(line: &[u8]) -> Result<Option<Placement<N>>, Wrong>
     ensures { checked_by (meant_card N.mean) result ≡ line_of N.ops line.now }
 {
-    let fields = cut(line);
-    let first = fields.first;
+    let first = first_field(line);
     match first.text {
         [] | [STAR, ..] => Ok(None),
         [letter, number @ ..] => {
@@ -81,7 +80,7 @@ pub(crate) fn read_line<N: Arithmetic>(line: &[u8]) -> Result<Option<Placement<N
                 text: number,
                 place,
             };
-            Ok(Some(card(kind, number, fields)?))
+            Ok(Some(card(kind, number, cut_after(line, first))?))
         }
     }
 }

@@ -54,11 +54,18 @@ fn field_from<'a>(line: &'a [u8], from: usize) -> Field<'a>
     }
 }
 
-// The first six fields of a line.
-pub(crate) fn cut<'a>(line: &'a [u8]) -> Cut<'a>
+// The first field of a line. It is enough to tell a line that is skipped.
+pub(crate) fn first_field<'a>(line: &'a [u8]) -> Field<'a>
+    ensures { First line.now 0 (seen result) }
+{
+    field_from(line, 0)
+}
+
+// The first six fields of a line, whose first is at hand.
+pub(crate) fn cut_after<'a>(line: &'a [u8], first: Field<'a>) -> Cut<'a>
+    requires { First line.now 0 (seen first) }
     ensures { seen_cut result ≡ cutting line.now }
 {
-    let first = field_from(line, 0);
     let tail = field_from(line, first.end());
     let head = field_from(line, tail.end());
     let value = field_from(line, head.end());

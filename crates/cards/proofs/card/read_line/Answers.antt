@@ -1,4 +1,4 @@
-use Rattle.std.proofs.Common.{◌≡◌, ◌+◌, ◌-◌, ◌<◌, length, get_or, take, drop, Some, sym, refl, ap, ◌∙◌, rules}
+use Rattle.std.proofs.Common.{◌≡◌, ◌+◌, ◌-◌, ◌<◌, length, get_or, take, drop, Some, sym, ap, ◌∙◌, rules}
 use Rattle.std.proofs.lemmas.Result.{err_from_is_err_and}
 use Rattle.sheet.specs.declared.refusal.Refusal.TheVariants.{NoSuchLetter}
 use Rattle.cards.specs.declared.fault.Wrong.{Wrong}
@@ -12,16 +12,17 @@ use Rattle.cards.proofs.card.read_line.Goals.{After-card}
 -- the line is the card that its fields make
 found : (g : given.Over) (c : After-card g)
     → then (card_of g.N.Arithmetic.ops c.in_ok-kind-in-len1-up.kind
-    (record { place = c.cut-fields.result.first.place + 1; text = take (length c.cut-fields.result.first.text.now - 1) (drop 1 c.cut-fields.result.first.text.now) })
-    (seen_cut c.cut-fields.result)) (λ p. right (Some p)) ≡ line_of g.N.Arithmetic.ops c.args.line.now
+    (record { place = c.first_field-first.result.place + 1; text = take (length c.first_field-first.result.text.now - 1) (drop 1 c.first_field-first.result.text.now) })
+    (seen_cut c.cut_after.result)) (λ p. right (Some p)) ≡ line_of g.N.Arithmetic.ops c.args.line.now
 found g c =
-    let text = c.cut-fields.result.first.text.now in
+    let text = c.first_field-first.result.text.now in
+    let same = c.first_field-first.ensures.is ∙ sym (ap (λ x. x.first) c.cut_after.ensures) in
     let some : 0 < length text = search rules in
     let star : get_or text 0 0 ≡ 42 → ⊥ = search rules in
     let was = was_ok Wrong c.try_from.result c.in_ok-kind-in-len1-up.kind c.in_ok-kind-in-len1-up.ensures.cases in
     let letter = was_some _ NoSuchLetter c.in_ok-kind-in-len1-up.kind (sym c.try_from.ensures ∙ was) in
-    card_line g.N.Arithmetic.ops c.in_ok-kind-in-len1-up.kind (seen_cut c.cut-fields.result) text _ some star letter refl
-    ∙ ap (λ x. opened g.N.Arithmetic.ops x.first.text x) c.cut-fields.ensures
+    card_line g.N.Arithmetic.ops c.in_ok-kind-in-len1-up.kind (seen_cut c.cut_after.result) text _ some star letter (ap (λ w. w.place + 1) same)
+    ∙ (λ i. opened g.N.Arithmetic.ops (c.first_field-first.ensures.is i).text (c.cut_after.ensures i))
 
 pub returns-in_err-card-in-len1-up : goal.returns-in_err-card-in-len1-up
 returns-in_err-card-in-len1-up g c =
