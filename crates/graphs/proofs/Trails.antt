@@ -1,10 +1,10 @@
 -- Walks shortened to trails; loop-free sets are those of which no member has its ends joined by the others. Assumes nothing.
-use Rattle.std.proofs.Common.{◌≡◌, ℕ, false, eqb, ◌⊎◌, ◌∷◌, sym, refl, ap, ◌∙◌, subst, inl, inr}
+use Rattle.std.proofs.Common.{◌≡◌, ℕ, false, cond, eqb, ◌⊎◌, ◌∷◌, sym, refl, ap, ◌∙◌, subst, inl, inr}
 use mathlib.Core.Bool.{false≢true}
 use Rattle.std.proofs.lemmas.Bool.{eqb-true, eqb-false, eq-eqb, cases_eq, cases_Bool, or_cases, or_left, or_parts, both_ways}
-use Rattle.graphs.specs.Graph.{Graph, Set, ◌∈◌, ◌⊆◌, with, without, Walk, Spans, here, along, against, passed, listed, Distinct, Trail, Loop, LoopAlong, LoopFree, Independent}
+use Rattle.graphs.specs.Graph.{Graph, Set, ◌∈◌, ◌⊆◌, with, without, Walk, Spans, here, along, against, passed, listed, Distinct, Trail, Loop, LoopAlong, LoopFree, Independent, plus, way_around}
 use Rattle.graphs.proofs.Sets.{out, in_with, with_more, with_cases, without_less, without_not, in_without}
-use Rattle.graphs.proofs.Walks.{from, then, back, one_along, one_against, into, passed-from, passed-into, passed-member}
+use Rattle.graphs.proofs.Walks.{from, then, back, one_along, one_against, into, passed-from, passed-into, passed-member, way-into}
 
 -- a trail from a to c
 abbrev pub TrailFrom : Graph → Set → ℕ → ℕ → Type 0
@@ -58,6 +58,10 @@ loop_along {g} {S} k h w =
 -- the same loop in a larger set, passed the same way
 unfoldable pub wider : {g : Graph} {S R : Set} {k : ℕ} → S ⊆ R → LoopAlong g S k → LoopAlong g R k
 wider {k = k} f l = record { back = into f l.back; once = subst (λ ks. Distinct (k ∷ ks)) (sym (passed-into f l.back)) l.once }
+
+pub wider-way : {g : Graph} {S R : Set} {k : ℕ} (f : S ⊆ R) (l : LoopAlong g S k) (j : ℕ) → way_around (wider f l) j ≡ way_around l j
+unfolding wider
+wider-way {k = k} f l j = ap (cond (eqb j k) plus) (way-into f l.back j)
 
 -- and such a loop is a loop
 pub along_loop : {g : Graph} {S : Set} (k : ℕ) (R : Set) → k ∈ R → S ⊆ R → LoopAlong g S k → Loop g R

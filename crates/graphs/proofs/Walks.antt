@@ -1,8 +1,8 @@
 -- Walks can be joined, turned round and carried into a larger set. Assumes nothing.
-use Rattle.std.proofs.Common.{◌≡◌, ℕ, eqb, ◌∷◌, sym, refl, ap, ◌∙◌, subst, inl, inr}
+use Rattle.std.proofs.Common.{◌≡◌, ℕ, cond, eqb, ◌∷◌, sym, refl, ap, ◌∙◌, subst, inl, inr}
 use mathlib.Core.Bool.{false≢true}
 use Rattle.std.proofs.lemmas.Bool.{eqb-true, or_cases}
-use Rattle.graphs.specs.Graph.{Graph, Set, ◌∈◌, ◌⊆◌, Walk, Spans, here, along, against, passed, listed}
+use Rattle.graphs.specs.Graph.{Graph, Set, ◌∈◌, ◌⊆◌, Walk, Spans, here, along, against, passed, listed, way, plus, minus}
 
 -- the same walk, said to begin at an equal node
 unfoldable pub from : {g : Graph} {S : Set} {a b c : ℕ} → a ≡ b → Walk g S b c → Walk g S a c
@@ -56,6 +56,12 @@ unfolding into passed
 passed-into f (here d) = refl
 passed-into f (along k m d w) = ap (λ ks. k ∷ ks) (passed-into f w)
 passed-into f (against k m d w) = ap (λ ks. k ∷ ks) (passed-into f w)
+
+pub way-into : {g : Graph} {S R : Set} {a c : ℕ} (f : S ⊆ R) (w : Walk g S a c) (t : ℕ) → way (into f w) t ≡ way w t
+unfolding into way
+way-into f (here d) t = refl
+way-into f (along k m d w) t = ap (cond (eqb t k) plus) (way-into f w t)
+way-into f (against k m d w) t = ap (cond (eqb t k) minus) (way-into f w t)
 
 -- a walk passes only members
 pub passed-member : {g : Graph} {S : Set} {a c : ℕ} (w : Walk g S a c) (k : ℕ) → k ∈ listed (passed w) → k ∈ S

@@ -8,6 +8,11 @@ pub one_word : (w : Word) → 32 ∷ w ≡ spaced (w ∷ [])
 unfolding spaced
 one_word w = ap (λ b. 32 ∷ b) (sym (append-nil w))
 
+pub spaced_more : (xs ys : List Word) → spaced (xs ++ ys) ≡ spaced xs ++ spaced ys
+unfolding spaced
+spaced_more [] ys = refl
+spaced_more (x ∷ xs) ys = ap (λ b. 32 ∷ b) (ap (λ b. x ++ b) (spaced_more xs ys) ∙ sym (append_assoc x (spaced xs) (spaced ys)))
+
 pub text_more : (xs ys : List Line) → text_of (xs ++ ys) ≡ text_of xs ++ text_of ys
 unfolding text_of
 text_more [] ys = refl
